@@ -1,0 +1,258 @@
+-- The laws of boxes: a pixel is in a cut where it is in both, and `hull` is the smallest box around its list.
+-- Assumes nothing.
+use mathlib.Core.Bool.{Bool, true, false, cond, _&&_, _||_}
+use mathlib.Core.List.{List, [], _∷_}
+use mathlib.Core.Path.{_≡_, refl, sym, _∙_}
+use lib.IntN.{ℤ, predℤ}
+use lib.Signed.{leZ, ltZ}
+use Rattle.geom.specs.declared.IRect.{IRect}
+use Rattle.geom.specs.Int.{maxZ, minZ}
+use Rattle.geom.proofs.Int.{orderZ, pred-down, max-left, max-right, max-by, min-left, min-right, min-by}
+use Rattle.geom.proofs.Bools.{and-left, and-right, and-both, or-false, same-test}
+use Rattle.geom.specs.Box.{inside, meet, empty, noBox, around, join, hull, Holds, inAny, HoldsEach, Smallest}
+
+-- ---- a pixel inside
+
+pub record In (b : IRect) (x y : ℤ) : Type 0 where
+  pub left : leZ (b .x0) x ≡ true
+  pub right : ltZ x (b .x1) ≡ true
+  pub top : leZ (b .y0) y ≡ true
+  pub bottom : ltZ y (b .y1) ≡ true
+
+pub in-of : (b : IRect) (x y : ℤ) → inside b x y ≡ true → In b x y
+unfolding inside
+in-of b x y e =
+    let l = leZ (b .x0) x in
+    let r = ltZ x (b .x1) in
+    let t = leZ (b .y0) y in
+    let d = ltZ y (b .y1) in
+    let h = and-left (l && r) (t && d) e in
+    let v = and-right (l && r) (t && d) e in
+    record { left = and-left l r h; right = and-right l r h; top = and-left t d v; bottom = and-right t d v }
+
+pub inside-of : (b : IRect) (x y : ℤ) → In b x y → inside b x y ≡ true
+unfolding inside
+inside-of b x y i = and-both (and-both (i .left) (i .right)) (and-both (i .top) (i .bottom))
+
+-- ---- the cut of two boxes
+
+below-max : (x m k : ℤ) → leZ k x ≡ true → ltZ x (maxZ m k) ≡ true → ltZ x m ≡ true
+below-max x m k h = max-by (λ (z : ℤ). ltZ x z ≡ true → ltZ x m ≡ true) m k (λ t. t) (λ t. omega orderZ)
+
+-- a half-open range cut by another, as `meet` has it on each axis
+range-both : (x a b c d : ℤ) → leZ (maxZ a b) x ≡ true → ltZ x (maxZ (minZ c d) (maxZ a b)) ≡ true
+    → (leZ a x ≡ true) × (leZ b x ≡ true) × (ltZ x c ≡ true) × (ltZ x d ≡ true)
+range-both x a b c d h k =
+    let m = below-max x (minZ c d) (maxZ a b) h k in
+    omega (orderZ, max-left a b, max-right a b, min-left c d, min-right c d)
+
+range-cut : (x a b c d : ℤ) → leZ a x ≡ true → leZ b x ≡ true → ltZ x c ≡ true → ltZ x d ≡ true
+    → (leZ (maxZ a b) x ≡ true) × (ltZ x (maxZ (minZ c d) (maxZ a b)) ≡ true)
+range-cut x a b c d p q r s =
+    let l = max-by (λ (z : ℤ). leZ z x ≡ true) a b p q in
+    let m = min-by (λ (z : ℤ). ltZ x z ≡ true) c d r s in
+    (l, omega (orderZ, max-left (minZ c d) (maxZ a b)))
+
+pub in-meet : (a b : IRect) (x y : ℤ) → inside (meet a b) x y ≡ inside a x y && inside b x y
+unfolding meet
+in-meet a b x y = same-test (inside (meet a b) x y) (inside a x y && inside b x y) there back
+  where
+    there : inside (meet a b) x y ≡ true → inside a x y && inside b x y ≡ true
+    there e =
+        let i = in-of (meet a b) x y e in
+        let h = range-both x (a .x0) (b .x0) (a .x1) (b .x1) (i .left) (i .right) in
+        let v = range-both y (a .y0) (b .y0) (a .y1) (b .y1) (i .top) (i .bottom) in
+        and-both
+        (inside-of a x y (record { left = h .0; right = h .2; top = v .0; bottom = v .2 }))
+        (inside-of b x y (record { left = h .1; right = h .3; top = v .1; bottom = v .3 }))
+
+    back : inside a x y && inside b x y ≡ true → inside (meet a b) x y ≡ true
+    back e =
+        let i = in-of a x y (and-left (inside a x y) (inside b x y) e) in
+        let j = in-of b x y (and-right (inside a x y) (inside b x y) e) in
+        let h = range-cut x (a .x0) (b .x0) (a .x1) (b .x1) (i .left) (j .left) (i .right) (j .right) in
+        let v = range-cut y (a .y0) (b .y0) (a .y1) (b .y1) (i .top) (j .top) (i .bottom) (j .bottom) in
+        inside-of (meet a b) x y (record { left = h .0; right = h .1; top = v .0; bottom = v .1 })
+
+-- ---- the smallest box
+
+-- an empty box has no pixel
+pub in-empty : (b : IRect) (x y : ℤ) → empty b ≡ true → inside b x y ≡ false
+unfolding empty
+in-empty b x y e = same-test (inside b x y) false there (λ z. cc)
+  where
+    there : inside b x y ≡ true → false ≡ true
+    there k =
+        let i = in-of b x y k in
+        let f : leZ (b .x1) (b .x0) ≡ false = omega orderZ in
+        let g : leZ (b .y1) (b .y0) ≡ false = omega orderZ in
+        rw (f, g) at e
+
+pub in-noBox : (x y : ℤ) → inside noBox x y ≡ false
+unfolding noBox empty
+in-noBox x y = in-empty noBox x y refl
+
+-- a box that is not empty has its corners: the first pixel, and the last
+module _ (b : IRect) (full : empty b ≡ false) where
+  wide : (ltZ (b .x0) (b .x1) ≡ true) × (ltZ (b .y0) (b .y1) ≡ true)
+  unfolding empty
+  wide =
+      let p = or-false (leZ (b .x1) (b .x0)) (leZ (b .y1) (b .y0)) full in
+      let l = p .0 in
+      let r = p .1 in
+      omega orderZ
+
+  pub first-in : inside b (b .x0) (b .y0) ≡ true
+  first-in = let w = wide in inside-of b (b .x0) (b .y0) (omega orderZ)
+
+  pub last-in : inside b (predℤ (b .x1)) (predℤ (b .y1)) ≡ true
+  last-in =
+      let w = wide in
+      inside-of b (predℤ (b .x1)) (predℤ (b .y1)) (omega (orderZ, pred-down (b .x1), pred-down (b .y1)))
+
+  -- a box that holds another that is not empty has its edges
+  pub record Edges (big : IRect) : Type 0 where
+    pub left : leZ (big .x0) (b .x0) ≡ true
+    pub right : leZ (b .x1) (big .x1) ≡ true
+    pub top : leZ (big .y0) (b .y0) ≡ true
+    pub bottom : leZ (b .y1) (big .y1) ≡ true
+
+  pub edges : (big : IRect) → Holds big b → Edges big
+  edges big h =
+      let i = in-of big (b .x0) (b .y0) (h .holds (b .x0) (b .y0) first-in) in
+      let j = in-of big (predℤ (b .x1)) (predℤ (b .y1)) (h .holds (predℤ (b .x1)) (predℤ (b .y1)) last-in) in
+      omega (orderZ, pred-down (b .x1), pred-down (b .y1))
+
+in-around : (a b : IRect) (x y : ℤ) → inside a x y ≡ true → inside (around a b) x y ≡ true
+unfolding around
+in-around a b x y e =
+    let i = in-of a x y e in
+    inside-of (around a b) x y
+    (omega (orderZ, min-left (a .x0) (b .x0), min-left (a .y0) (b .y0), max-left (a .x1) (b .x1), max-left (a .y1) (b .y1)))
+
+in-around-right : (a b : IRect) (x y : ℤ) → inside b x y ≡ true → inside (around a b) x y ≡ true
+unfolding around
+in-around-right a b x y e =
+    let i = in-of b x y e in
+    inside-of (around a b) x y
+    (omega (orderZ, min-right (a .x0) (b .x0), min-right (a .y0) (b .y0), max-right (a .x1) (b .x1), max-right (a .y1) (b .y1)))
+
+pub join-left : (a b : IRect) → Holds (join a b) a
+unfolding join
+join-left a b = record { holds = λ x y e. go (empty a) (empty b) refl x y e }
+  where
+    go : (s t : Bool) → empty a ≡ s → (x y : ℤ) → inside a x y ≡ true → inside (cond s b (cond t a (around a b))) x y ≡ true
+    go true t p x y e = let f = in-empty a x y p in cc
+    go false true p x y e = e
+    go false false p x y e = in-around a b x y e
+
+pub join-right : (a b : IRect) → Holds (join a b) b
+unfolding join
+join-right a b = record { holds = λ x y e. go (empty a) (empty b) refl x y e }
+  where
+    go : (s t : Bool) → empty b ≡ t → (x y : ℤ) → inside b x y ≡ true → inside (cond s b (cond t a (around a b))) x y ≡ true
+    go true t p x y e = e
+    go false true p x y e = let f = in-empty b x y p in cc
+    go false false p x y e = in-around-right a b x y e
+
+-- a box that holds two that are not empty holds the box around them
+holds-around : (big a b : IRect) → empty a ≡ false → empty b ≡ false → Holds big a → Holds big b → Holds big (around a b)
+unfolding around
+holds-around big a b p q h k = record { holds = within }
+  where
+    e : Edges a p big
+    e = edges a p big h
+
+    f : Edges b q big
+    f = edges b q big k
+
+    l : leZ (big .x0) (minZ (a .x0) (b .x0)) ≡ true
+    l = min-by (λ (z : ℤ). leZ (big .x0) z ≡ true) (a .x0) (b .x0) (e .left) (f .left)
+
+    t : leZ (big .y0) (minZ (a .y0) (b .y0)) ≡ true
+    t = min-by (λ (z : ℤ). leZ (big .y0) z ≡ true) (a .y0) (b .y0) (e .top) (f .top)
+
+    r : leZ (maxZ (a .x1) (b .x1)) (big .x1) ≡ true
+    r = max-by (λ (z : ℤ). leZ z (big .x1) ≡ true) (a .x1) (b .x1) (e .right) (f .right)
+
+    d : leZ (maxZ (a .y1) (b .y1)) (big .y1) ≡ true
+    d = max-by (λ (z : ℤ). leZ z (big .y1) ≡ true) (a .y1) (b .y1) (e .bottom) (f .bottom)
+
+    within : (x y : ℤ) → inside (around a b) x y ≡ true → inside big x y ≡ true
+    within x y i = let j = in-of (around a b) x y i in inside-of big x y (omega (orderZ, l, t, r, d))
+
+pub holds-join : (big a b : IRect) → Holds big a → Holds big b → Holds big (join a b)
+unfolding join
+holds-join big a b h k = go (empty a) (empty b) refl refl
+  where
+    go : (s t : Bool) → empty a ≡ s → empty b ≡ t → Holds big (cond s b (cond t a (around a b)))
+    go true t p q = k
+    go false true p q = h
+    go false false p q = holds-around big a b p q h k
+
+pub empty-around : (a b : IRect) → empty a ≡ false → empty b ≡ false → empty (around a b) ≡ false
+empty-around a b p q = same-test (empty (around a b)) false (λ e. let f = in-empty (around a b) (a .x0) (a .y0) e in let g = in-around a b (a .x0) (a .y0) (first-in a p) in cc) (λ z. cc)
+
+pub empty-join : (a b : IRect) → empty (join a b) ≡ true → join a b ≡ b
+unfolding join
+empty-join a b = go (empty a) (empty b) refl refl
+  where
+    go : (s t : Bool) → empty a ≡ s → empty b ≡ t → empty (cond s b (cond t a (around a b))) ≡ true → cond s b (cond t a (around a b)) ≡ b
+    go true t p q e = refl
+    go false true p q e = let z : true ≡ false = cc in cc
+    go false false p q e = let z = empty-around a b p q in let y : true ≡ false = cc in cc
+
+holds-trans : {a b c : IRect} → Holds a b → Holds b c → Holds a c
+holds-trans h k = record { holds = λ x y e. h .holds x y (k .holds x y e) }
+
+each-wider : (wide narrow frame : IRect) (bs : List IRect) → Holds wide narrow → HoldsEach narrow frame bs → HoldsEach wide frame bs
+unfolding HoldsEach
+each-wider wide narrow frame [] h e = tt
+each-wider wide narrow frame (b ∷ bs) h e = (holds-trans h (e .0), each-wider wide narrow frame bs h (e .1))
+
+pub hull-around : (frame : IRect) (bs : List IRect) → HoldsEach (hull frame bs) frame bs
+unfolding hull HoldsEach
+hull-around frame [] = tt
+hull-around frame (b ∷ bs) =
+    let j = join-right (meet frame b) (hull frame bs) in
+    (join-left (meet frame b) (hull frame bs), each-wider _ _ frame bs j (hull-around frame bs))
+
+pub hull-least : (frame : IRect) (bs : List IRect) (big : IRect) → HoldsEach big frame bs → Holds big (hull frame bs)
+unfolding hull HoldsEach
+hull-least frame [] big h = record { holds = λ x y e. let f = in-noBox x y in let z : true ≡ false = cc in cc }
+hull-least frame (b ∷ bs) big h = holds-join big (meet frame b) (hull frame bs) (h .0) (hull-least frame bs big (h .1))
+
+pub hull-none : (frame : IRect) (bs : List IRect) → empty (hull frame bs) ≡ true → hull frame bs ≡ noBox
+unfolding hull
+hull-none frame [] e = refl
+hull-none frame (b ∷ bs) e =
+    let j = empty-join (meet frame b) (hull frame bs) e in
+    j ∙ hull-none frame bs (rw j at e)
+
+pub hull-smallest : (frame : IRect) (bs : List IRect) → Smallest frame bs (hull frame bs)
+hull-smallest frame bs = record { around = hull-around frame bs; least = hull-least frame bs; none = hull-none frame bs }
+
+-- a pixel of the frame that lies in one of the boxes lies in a box that holds them
+pub held-any : (big frame : IRect) (bs : List IRect) → HoldsEach big frame bs
+    → (x y : ℤ) → inside frame x y ≡ true → inAny bs x y ≡ true → inside big x y ≡ true
+unfolding inAny HoldsEach
+held-any big frame [] h x y f e = let z : true ≡ false = cc in cc
+held-any big frame (b ∷ bs) h x y f e = go (inside b x y) refl e (held-any big frame bs (h .1) x y f)
+  where
+    go : (t : Bool) → inside b x y ≡ t → t || inAny bs x y ≡ true
+        → (inAny bs x y ≡ true → inside big x y ≡ true) → inside big x y ≡ true
+    go true p k rest = h .0 .holds x y (in-meet frame b x y ∙ and-both f p)
+    go false p k rest = rest k
+
+-- the smallest box lies in the frame
+each-in-frame : (frame : IRect) (bs : List IRect) → HoldsEach frame frame bs
+unfolding HoldsEach
+each-in-frame frame [] = tt
+each-in-frame frame (b ∷ bs) =
+    (record { holds = λ x y e. and-left (inside frame x y) (inside b x y) (sym (in-meet frame b x y) ∙ e) }, each-in-frame frame bs)
+
+pub hull-in-frame : (frame : IRect) (bs : List IRect) → Holds frame (hull frame bs)
+hull-in-frame frame bs = hull-least frame bs frame (each-in-frame frame bs)
+
+pub out-of-hull : (frame : IRect) (bs : List IRect) (x y : ℤ) → inside frame x y ≡ false → inside (hull frame bs) x y ≡ false
+out-of-hull frame bs x y o = same-test _ false (λ e. let h = hull-in-frame frame bs .holds x y e in cc) (λ z. cc)

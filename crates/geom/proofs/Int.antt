@@ -1,0 +1,116 @@
+-- The order of ℤ, read by `omega`. An integer z is `up z` less `down z`, so an order of integers is an order of sums of
+-- naturals: list `orderZ` in a call of `omega`, and it reads and proves the tests `leZ` and `ltZ`. Assumes nothing.
+use mathlib.Core.Bool.{Bool, true, false, cond}
+use mathlib.Core.Path.{_≡_, refl}
+use Prim.Native.Nat.{ℕ, zero, suc, _+_, _≤_, _<_}
+use native.Mathlib.Omega.{arith}
+use lib.IntN.{ℤ, pos, negsuc, predℤ}
+use lib.Signed.{leZ, ltZ}
+use borrow.Author.Tests.{leb-true, leb-false, ltb-true, ltb-false, le-leb, lt-leb, lt-ltb, le-ltb}
+use Rattle.geom.specs.Int.{up, down, maxZ, minZ}
+
+pub leZ-true : (a b : ℤ) → leZ a b ≡ true → up a + down b ≤ up b + down a
+leZ-true (pos a) (pos b) e = omega (arith, leb-true a b e)
+leZ-true (pos a) (negsuc b) e = let z : _≡_ {A = ℕ} 0 1 = cc in omega arith
+leZ-true (negsuc a) (pos b) e = omega arith
+leZ-true (negsuc a) (negsuc b) e = omega (arith, leb-true b a e)
+
+pub leZ-false : (a b : ℤ) → leZ a b ≡ false → up b + down a < up a + down b
+leZ-false (pos a) (pos b) e = omega (arith, leb-false a b e)
+leZ-false (pos a) (negsuc b) e = omega arith
+leZ-false (negsuc a) (pos b) e = let z : _≡_ {A = ℕ} 0 1 = cc in omega arith
+leZ-false (negsuc a) (negsuc b) e = omega (arith, leb-false b a e)
+
+pub ltZ-true : (a b : ℤ) → ltZ a b ≡ true → up a + down b < up b + down a
+ltZ-true (pos a) (pos b) e = omega (arith, ltb-true a b e)
+ltZ-true (pos a) (negsuc b) e = let z : _≡_ {A = ℕ} 0 1 = cc in omega arith
+ltZ-true (negsuc a) (pos b) e = omega arith
+ltZ-true (negsuc a) (negsuc b) e = omega (arith, ltb-true b a e)
+
+pub ltZ-false : (a b : ℤ) → ltZ a b ≡ false → up b + down a ≤ up a + down b
+ltZ-false (pos a) (pos b) e = omega (arith, ltb-false a b e)
+ltZ-false (pos a) (negsuc b) e = omega arith
+ltZ-false (negsuc a) (pos b) e = let z : _≡_ {A = ℕ} 0 1 = cc in omega arith
+ltZ-false (negsuc a) (negsuc b) e = omega (arith, ltb-false b a e)
+
+pub le-leZ : (a b : ℤ) → up a + down b ≤ up b + down a → leZ a b ≡ true
+le-leZ (pos a) (pos b) h = le-leb a b (omega arith)
+le-leZ (pos a) (negsuc b) h = absurd (omega arith)
+le-leZ (negsuc a) (pos b) h = refl
+le-leZ (negsuc a) (negsuc b) h = le-leb b a (omega arith)
+
+pub lt-leZ : (a b : ℤ) → up b + down a < up a + down b → leZ a b ≡ false
+lt-leZ (pos a) (pos b) h = lt-leb a b (omega arith)
+lt-leZ (pos a) (negsuc b) h = refl
+lt-leZ (negsuc a) (pos b) h = absurd (omega arith)
+lt-leZ (negsuc a) (negsuc b) h = lt-leb b a (omega arith)
+
+pub lt-ltZ : (a b : ℤ) → up a + down b < up b + down a → ltZ a b ≡ true
+lt-ltZ (pos a) (pos b) h = lt-ltb a b (omega arith)
+lt-ltZ (pos a) (negsuc b) h = absurd (omega arith)
+lt-ltZ (negsuc a) (pos b) h = refl
+lt-ltZ (negsuc a) (negsuc b) h = lt-ltb b a (omega arith)
+
+pub le-ltZ : (a b : ℤ) → up b + down a ≤ up a + down b → ltZ a b ≡ false
+le-ltZ (pos a) (pos b) h = le-ltb a b (omega arith)
+le-ltZ (pos a) (negsuc b) h = refl
+le-ltZ (negsuc a) (pos b) h = absurd (omega arith)
+le-ltZ (negsuc a) (negsuc b) h = le-ltb b a (omega arith)
+
+-- one less
+pub pred-down : (a : ℤ) → up (predℤ a) + down a + 1 ≡ up a + down (predℤ a)
+pred-down (pos zero) = refl
+pred-down (pos (suc n)) = omega arith
+pred-down (negsuc n) = omega arith
+
+pub ruleset orderZ = (arith, leZ-true, leZ-false, ltZ-true, ltZ-false, le-leZ, lt-leZ, lt-ltZ, le-ltZ)
+
+-- what the larger and the smaller are, by their order
+pub max-left : (a b : ℤ) → leZ a (maxZ a b) ≡ true
+unfolding maxZ
+max-left a b = go (leZ a b) refl
+  where
+    go : (t : Bool) → leZ a b ≡ t → leZ a (cond t b a) ≡ true
+    go true e = e
+    go false e = omega orderZ
+
+pub max-right : (a b : ℤ) → leZ b (maxZ a b) ≡ true
+unfolding maxZ
+max-right a b = go (leZ a b) refl
+  where
+    go : (t : Bool) → leZ a b ≡ t → leZ b (cond t b a) ≡ true
+    go true e = omega orderZ
+    go false e = omega orderZ
+
+-- what holds of both holds of the larger, and of the smaller
+pub max-by : (P : ℤ → Type 0) (a b : ℤ) → P a → P b → P (maxZ a b)
+unfolding maxZ
+max-by P a b p q = go (leZ a b)
+  where
+    go : (t : Bool) → P (cond t b a)
+    go true = q
+    go false = p
+
+pub min-by : (P : ℤ → Type 0) (a b : ℤ) → P a → P b → P (minZ a b)
+unfolding minZ
+min-by P a b p q = go (leZ a b)
+  where
+    go : (t : Bool) → P (cond t a b)
+    go true = p
+    go false = q
+
+pub min-left : (a b : ℤ) → leZ (minZ a b) a ≡ true
+unfolding minZ
+min-left a b = go (leZ a b) refl
+  where
+    go : (t : Bool) → leZ a b ≡ t → leZ (cond t a b) a ≡ true
+    go true e = omega orderZ
+    go false e = omega orderZ
+
+pub min-right : (a b : ℤ) → leZ (minZ a b) b ≡ true
+unfolding minZ
+min-right a b = go (leZ a b) refl
+  where
+    go : (t : Bool) → leZ a b ≡ t → leZ (cond t a b) b ≡ true
+    go true e = e
+    go false e = omega orderZ

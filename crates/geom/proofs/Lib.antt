@@ -1,0 +1,5 @@
+-- The laws that belong to no one function. Assumes nothing.
+pub mod Bools
+pub mod Int
+pub mod Boxes
+pub mod Signed

@@ -1,0 +1,12 @@
+-- `geom::float_ok` meets its contract. Assumes nothing.
+use Rattle.geom.specs.Plane.{floatOk}
+use mathlib.Core.Path.{refl}
+use Rattle.geom.proofs.float_ok.Statement.{statement}
+use Rattle.geom.proofs.float_ok.Tie as tie
+
+returns : tie.Need-returns
+unfolding floatOk
+returns c = refl
+
+pub float-ok-spec : {M : Type 1} → statement M
+float-ok-spec = tie.close (tie.spec returns)

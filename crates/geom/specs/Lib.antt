@@ -1,0 +1,5 @@
+-- The definitions that geom's contracts cite. Assumes nothing.
+pub mod Int
+pub mod Box
+pub mod Plane
+pub mod Examples
