@@ -6,7 +6,7 @@ use Prim.Native.Nat.{ℕ, zero, suc, _+_, _-_, _*_, _/_, _%_, _^_, _≤_, _<_, m
 use native.Mathlib.Nat.{add-zero, zero-mul, mul-one, mul-pos, mul-assoc, mul-right-comm, zero-lt-suc, le-trans, le-antisymm, mul-lt-mul-of-pos-right, lt-of-mul-lt-mul-right, le-of-mul-le-mul-right, div-lt-iff-lt-mul, le-div-iff-mul-le, div-mul-le-self, div-one, pow-succ', suc-mul, le-of-suc-le-suc, le-add-right, lt-suc-self, zero-div, div-eq-of-lt}
 use native.Mathlib.Numerals.{add-one}
 use native.Mathlib.Omega.{arith}
-use lib.Dec.{T, ltb, leb, eqb, le→leb, ltb→lt, nltb→le, lit≤}
+use lib.Dec.{T, ltb, leb, eqb, le→leb, leb→le, ltb→lt, nltb→le, lit≤}
 use lib.IntN.{ℤ, pos, negsuc}
 use lib.Pow.{pow-pos, pow-add}
 use lib.Ieee.{Float, nan, inf, fin, Format, binary32, prec, emax, low, up, down, odd, units, round, neg, lt, ofInt, toUnsigned, inFloat, fits}
@@ -35,14 +35,15 @@ pub neg-round : (f : Format) (s : Bool) (a b : ℕ) → neg (round f s a b) ≡ 
 neg-round f s a b = rw (round-is, round-is) (neg-units f s _ _)
 
 -- ---- what it takes to fit: of a number above zero
-pub fit-parts : (s : Bool) (m : ℕ) (e : ℤ) → T (fits binary32 (fin s (suc m) e)) → (suc m < 2 ^ 24) × (suc m * up e < 2 ^ 128 * down e)
+pub fit-parts : (s : Bool) (m : ℕ) (e : ℤ) → T (fits binary32 (fin s (suc m) e)) → (suc m < 2 ^ 24) × (suc m * up e < 2 ^ 128 * down e) × (down e ≤ 2 ^ 149)
 unfolding fits
 fit-parts s m e t =
     let a : Bool = eqb (suc m % 2) 1 in
     let b : Bool = ltb (suc m) (2 ^ 24) in
     let c : Bool = leb (down e) (2 ^ 149) in
     let d : Bool = ltb (suc m * up e) (2 ^ 128 * down e) in
-    (ltb→lt (suc m) (2 ^ 24) (and-r a b (and-l (a && b) c (and-l (a && b && c) d t))), ltb→lt (suc m * up e) (2 ^ 128 * down e) (and-r (a && b && c) d t))
+    let low = and-l (a && b && c) d t in
+    (ltb→lt (suc m) (2 ^ 24) (and-r a b (and-l (a && b) c low)), ltb→lt (suc m * up e) (2 ^ 128 * down e) (and-r (a && b && c) d t), leb→le (down e) (2 ^ 149) (and-r (a && b) c low))
 
 -- ---- a float that is whole is the float of its whole number
 units-below : (m k : ℕ) → m * 2 ^ k < 2 ^ 128 * 1 → m * 2 ^ (k + 149) < 2 ^ (149 + 128)
