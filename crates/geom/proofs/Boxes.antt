@@ -3,16 +3,16 @@
 use mathlib.Core.Bool.{Bool, true, false, cond, _&&_, _||_}
 use mathlib.Core.List.{List, [], _∷_}
 use mathlib.Core.Logic.{_⊎_, inl, inr}
-use Prim.Native.Nat.{ℕ}
+use Prim.Native.Nat.{ℕ, _<_, _≤_}
 use lib.Dec.{leb, ltb}
 use mathlib.Core.Path.{_≡_, refl, sym, _∙_}
 use lib.IntN.{ℤ, pos, predℤ}
 use lib.Signed.{leZ, ltZ}
 use Rattle.geom.specs.declared.IRect.{IRect}
 use Rattle.geom.specs.Int.{up, maxZ, minZ}
-use Rattle.geom.proofs.Int.{orderZ, pred-down, le-up, lt-up, max-left, max-right, max-by, min-left, min-right, min-by}
+use Rattle.geom.proofs.Int.{orderZ, pred-down, down-none, le-up, lt-up, max-left, max-right, max-by, min-left, min-right, min-by}
 use Rattle.geom.proofs.Bools.{and-left, and-right, and-both, or-false, same-test, split}
-use Rattle.geom.specs.Box.{inside, meet, empty, noBox, around, join, hull, Holds, inAny, HoldsEach, Smallest}
+use Rattle.geom.specs.Box.{boxOf, inside, meet, empty, noBox, around, join, hull, Holds, inAny, HoldsEach, Smallest}
 
 -- ---- a pixel inside
 
@@ -163,6 +163,16 @@ meet-within frame a b (inl e) = inl (meet-empty a b e)
 meet-within frame a b (inr w) =
     split (empty (meet a b)) (λ t. (t ≡ true) ⊎ Within frame (meet a b)) (λ e. inl refl)
     (λ e. let l = cut-in a b e .0 in inr (omega orderZ))
+
+-- a box within the first w columns and h rows, by naturals
+pub within-nat : (w h : ℕ) (b : IRect) → Within (boxOf (pos 0) (pos 0) (pos w) (pos h)) b
+    → (up (b .x0) < up (b .x1)) × (up (b .x1) ≤ w) × (up (b .y0) < up (b .y1)) × (up (b .y1) ≤ h)
+within-nat w h b i =
+    let p = down-none (b .x0) (i .left) in
+    let q = down-none (b .y0) (i .top) in
+    let r = down-none (b .x1) (omega orderZ) in
+    let s = down-none (b .y1) (omega orderZ) in
+    omega orderZ
 
 -- ---- the smallest box
 
