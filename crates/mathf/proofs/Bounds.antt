@@ -33,13 +33,13 @@ signed-whole true zero h = minus-zero
 signed-whole true (suc k) h = negative-back binary32 31 k (lt→ltb k (2 ^ 24) h) (le-trans h (lit≤ tt)) .1
 
 -- ---- the cut of a fraction that is at most n
-cut-le : (a d n : ℕ) → 0 < d → a ≤ n * d → cutDown a d ≤ n
+pub cut-le : (a d n : ℕ) → 0 < d → a ≤ n * d → cutDown a d ≤ n
 cut-le a d n h l = le-of-suc-le-suc (div-lt-iff-lt-mul h .1 (rw suc-mul (room (n * d) l)))
   where
     room : (x : ℕ) → a ≤ x → a < x + d
     room x l = omega arith
 
-taken-le : (a d n : ℕ) → 0 < d → a ≤ n * d → takenUp a d ≤ n
+pub taken-le : (a d n : ℕ) → 0 < d → a ≤ n * d → takenUp a d ≤ n
 taken-le a d n h l = le-of-suc-le-suc (div-lt-iff-lt-mul h .1 (rw suc-mul (room (n * d) l)))
   where
     room : (x : ℕ) → a ≤ x → a + (d - 1) < x + d

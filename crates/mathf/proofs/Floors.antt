@@ -50,7 +50,7 @@ units-below : (m k : ℕ) → m * 2 ^ k < 2 ^ 128 * 1 → m * 2 ^ (k + 149) < 2 
 units-below m k h =
     subst (λ (z : ℕ). z < 2 ^ 277) (mul-assoc m (2 ^ k) (2 ^ 149) ∙ ap (λ (z : ℕ). m * z) (sym (pow-add 2 k 149))) (mul-lt-mul-of-pos-right h (pow-pos 149))
 
-whole-value : (s : Bool) (m k : ℕ) → T (fits binary32 (fin s m (pos k))) → HasValue (wholeOf s (m * 2 ^ k)) s (m * 2 ^ k) 1
+pub whole-value : (s : Bool) (m k : ℕ) → T (fits binary32 (fin s m (pos k))) → HasValue (wholeOf s (m * 2 ^ k)) s (m * 2 ^ k) 1
 whole-value s zero k t = subst (λ (z : ℕ). HasValue (wholeOf s z) s z 1) (sym (zero-mul (2 ^ k))) (round-whole binary32 s 0 (lit≤ tt))
 whole-value s (suc m) k t =
     let p = fit-parts s m (pos k) t in

@@ -1,4 +1,4 @@
--- The laws that belong to no one function. Assumes nothing.
+-- The laws that belong to no one function, and the proof of the claims (Trust). Assumes nothing.
 pub mod Saturating
 pub mod Floors
 pub mod Bounds
@@ -6,5 +6,8 @@ pub mod Roots
 pub mod Patterns
 pub mod Scaled
 pub mod Nearest
+pub mod Compared
+pub mod NextWhole
+pub mod Trust
 pub mod Ints
 pub mod Cuts
