@@ -2,17 +2,20 @@
 use mathlib.Core.Path.{_≡_, refl, sym, subst, _∙_}
 use mathlib.Core.Logic.{inl, inr}
 use mathlib.Core.Bool.{Bool, true, false, not, _&&_, _||_}
-use Prim.Native.Nat.{ℕ, _+_, _*_, _≤_, _<_}
-use native.Mathlib.Nat.{le-of-lt, le-of-eq, le-trans, eq-or-lt-of-le, zero-mul, mul-one}
+use Prim.Native.Nat.{ℕ, suc, _+_, _*_, _≤_, _<_}
+use native.Mathlib.Nat.{le-of-lt, le-of-eq, le-trans, eq-or-lt-of-le, zero-mul, mul-one, mul-pos, zero-lt-suc}
 use native.Mathlib.Omega.{arith}
 use lib.Dec.{T, ltb, eqb, ltb→lt, lt→ltb, nltb→le, eqb→eq}
 use lib.Arith.{le→nltb}
-use lib.IntN.{pos}
+use lib.IntN.{ℤ, pos}
 use lib.Ieee.{Float, nan, inf, fin, up, down, below, level, lt, eq, le, neg}
 use lib.Ieee.Exact.{HasValue}
-use lib.Ieee.Fits.{and-l, and-r, and-i, eq→eqb, down-pos}
+use lib.Ieee.Fits.{and-l, and-r, and-i, eq→eqb, up-pos, down-pos}
 use lib.Ieee.Order.{transfer}
 use lib.Ieee.Scale.{finite}
+
+swap : (a b : ℕ) → a + b ≤ 0 → b + a ≤ 0
+swap a b h = omega arith
 
 -- ---- ±a ≤ ±b
 abbrev pub AtMost : Bool → ℕ → Bool → ℕ → Type 0
@@ -21,13 +24,13 @@ AtMost false a true b = a + b ≤ 0
 AtMost true a false b = T true
 AtMost true a true b = b ≤ a
 
+pub or-l : (a b : Bool) → T a → T (a || b)
+or-l true b t = tt
+or-l false b t = absurd t
+
 or-r : (a b : Bool) → T b → T (a || b)
 or-r true b t = tt
 or-r false b t = t
-
-or-l : (a b : Bool) → T a → T (a || b)
-or-l true b t = tt
-or-l false b t = absurd t
 
 -- one of two tests, `<` and `=`
 cases : (a b : ℕ) (p q : Bool) → (T p → a ≤ b) → (T q → a ≤ b) → T (p || (q && true)) → a ≤ b
@@ -44,27 +47,67 @@ at-most false true a b h = none a b (eqb→eq a b (and-l (eqb a b) (eqb a 0) h))
 at-most true false a b h = tt
 at-most true true a b h = cases b a (ltb b a) (eqb a b) (λ u. le-of-lt (ltb→lt b a u)) (λ u. le-of-eq (sym (eqb→eq a b u))) h
 
+level-zero : (a b : ℕ) → a + b ≤ 0 → T (eqb a b && eqb a 0)
+level-zero a b h = and-i (eqb a b) (eqb a 0) (eq→eqb (same a b h)) (eq→eqb (none a b h))
+  where
+    same : (a b : ℕ) → a + b ≤ 0 → a ≡ b
+    same a b h = omega arith
+
+    none : (a b : ℕ) → a + b ≤ 0 → a ≡ 0
+    none a b h = omega arith
+
 pub from-at-most : (s t : Bool) (a b : ℕ) → AtMost s a t b → T (below s a t b || level s a t b)
 from-at-most false false a b h = elim (eq-or-lt-of-le h) [ inl e ↦ or-r (ltb a b) (eqb a b && true) (and-i (eqb a b) true (eq→eqb e) tt) | inr l ↦ or-l (ltb a b) (eqb a b && true) (lt→ltb a b l) ]
-from-at-most false true a b h = and-i (eqb a b) (eqb a 0) (eq→eqb (same a b h)) (eq→eqb (none a b h))
-  where
-    same : (a b : ℕ) → a + b ≤ 0 → a ≡ b
-    same a b h = omega arith
-
-    none : (a b : ℕ) → a + b ≤ 0 → a ≡ 0
-    none a b h = omega arith
+from-at-most false true a b h = level-zero a b h
 from-at-most true false a b h = go (ltb 0 (a + b)) (nltb→le 0 (a + b))
   where
-    same : (a b : ℕ) → a + b ≤ 0 → a ≡ b
-    same a b h = omega arith
-
-    none : (a b : ℕ) → a + b ≤ 0 → a ≡ 0
-    none a b h = omega arith
-
     go : (t : Bool) → (T (not t) → a + b ≤ 0) → T (t || (eqb a b && eqb a 0))
     go true f = tt
-    go false f = and-i (eqb a b) (eqb a 0) (eq→eqb (same a b (f tt))) (eq→eqb (none a b (f tt)))
+    go false f = level-zero a b (f tt)
 from-at-most true true a b h = elim (eq-or-lt-of-le h) [ inl e ↦ or-r (ltb b a) (eqb a b && true) (and-i (eqb a b) true (eq→eqb (sym e)) tt) | inr l ↦ or-l (ltb b a) (eqb a b && true) (lt→ltb b a l) ]
+
+not-below : (s t : Bool) (a b : ℕ) → AtMost s a t b → T (not (below t b s a))
+not-below false false a b h = le→nltb b a h
+not-below false true a b h = le→nltb 0 (b + a) (swap a b h)
+not-below true false a b h = tt
+not-below true true a b h = le→nltb a b h
+
+pub not-lt-of-le : (x y : Float) → T (le x y) → T (not (lt y x))
+unfolding le lt eq
+not-lt-of-le nan y t = absurd t
+not-lt-of-le (inf s) nan t = absurd t
+not-lt-of-le (inf true) (inf true) t = tt
+not-lt-of-le (inf true) (inf false) t = tt
+not-lt-of-le (inf false) (inf true) t = absurd t
+not-lt-of-le (inf false) (inf false) t = tt
+not-lt-of-le (inf true) (fin u n d) t = tt
+not-lt-of-le (inf false) (fin u n d) t = absurd t
+not-lt-of-le (fin s m e) nan t = absurd t
+not-lt-of-le (fin s m e) (inf true) t = absurd t
+not-lt-of-le (fin s m e) (inf false) t = tt
+not-lt-of-le (fin s m e) (fin u n d) t = let a = m * up e * down d in let b = n * up d * down e in not-below s u a b (at-most s u a b t)
+
+-- ---- beside zero
+pub not-negative : (m : ℕ) (e : ℤ) → T (lt (fin false m e) (fin false 0 (pos 0))) → ⊥
+unfolding lt
+not-negative m e t = none (m * up e * 1) (down e) (ltb→lt (m * up e * 1) (0 * 1 * down e) t)
+  where
+    none : (a d : ℕ) → a < 0 * 1 * d → ⊥
+    none a d h = omega arith
+
+pub negative : (m : ℕ) (e : ℤ) → T (not (lt (fin true (suc m) e) (fin false 0 (pos 0)))) → ⊥
+unfolding lt
+negative m e t = none (suc m * up e) (0 * 1 * down e) (mul-pos (zero-lt-suc m) (up-pos e)) (nltb→le 0 (suc m * up e * 1 + 0 * 1 * down e) t)
+  where
+    none : (a z : ℕ) → 0 < a → a * 1 + z ≤ 0 → ⊥
+    none a z p q = omega arith
+
+pub above-zero : (m : ℕ) (e : ℤ) → 0 < m → T (lt (fin false 0 (pos 0)) (fin false m e))
+unfolding lt
+above-zero m e h = lt→ltb (0 * 1 * down e) (m * up e * 1) (room (m * up e) (down e) (mul-pos h (up-pos e)))
+  where
+    room : (a d : ℕ) → 0 < a → 0 * 1 * d < a * 1
+    room a d p = omega arith
 
 -- ---- as numbers: x is ±a / c and y is ±b / d
 at-most-value : (s t : Bool) (x y p q a b c d : ℕ) → 0 < c → 0 < d → x * c ≡ a * p → y * d ≡ b * q → AtMost s (a * d) t (b * c) → AtMost s (x * q) t (y * p)
@@ -108,7 +151,7 @@ of-le (fin u m e) (fin z n g) s t a c b d C D v w h =
     (subst (λ (k : Bool). AtMost s (m * up e * down g) k (n * up g * down e)) (w .0)
     (subst (λ (k : Bool). AtMost k (m * up e * down g) z (n * up g * down e)) (v .0) (at-most u z (m * up e * down g) (n * up g * down e) h)))
 
--- a float's own value, and a whole number's
+-- a whole number of any size
 pub whole-value-of : (s : Bool) (n : ℕ) → HasValue (fin s n (pos 0)) s n 1
 whole-value-of s n = (refl, mul-one (n * 1))
 
@@ -116,9 +159,6 @@ whole-value-of s n = (refl, mul-one (n * 1))
 turned : (s t : Bool) (a b : ℕ) → AtMost s a t b → AtMost (not t) b (not s) a
 turned false false a b h = h
 turned false true a b h = swap a b h
-  where
-    swap : (a b : ℕ) → a + b ≤ 0 → b + a ≤ 0
-    swap a b h = omega arith
 turned true false a b h = tt
 turned true true a b h = h
 

@@ -1,13 +1,13 @@
 -- Why `floorOf` and `ceilOf` are the whole numbers next to a float: the greatest not above it, and the least not below it. Assumes nothing.
-use mathlib.Core.Path.{_≡_, refl, sym, ap, subst, _∙_}
+use mathlib.Core.Path.{refl, sym, ap, subst, _∙_}
 use mathlib.Core.Bool.{Bool, true, false, not}
-use Prim.Native.Nat.{ℕ, zero, suc, _+_, _-_, _*_, _/_, _^_, _≤_, _<_, zero-le}
+use Prim.Native.Nat.{ℕ, zero, suc, _+_, _-_, _*_, _^_, _≤_, _<_, zero-le}
 use native.Mathlib.Nat.{le-of-eq, le-of-lt, le-trans, mul-one, mul-le-mul-left, add-zero, div-one, div-mul-le-self, le-div-iff-mul-le, div-lt-iff-lt-mul, le-of-mul-le-mul-right, lt-suc-self, suc-mul, zero-mul}
 use native.Mathlib.Omega.{arith}
-use lib.Dec.{T, lit<}
+use lib.Dec.{T}
 use lib.IntN.{ℤ, pos, negsuc}
 use lib.Pow.{pow-pos}
-use lib.Ieee.{Float, nan, inf, fin, binary32, up, down, round, neg, le, fits}
+use lib.Ieee.{Float, nan, inf, fin, binary32, up, down, neg, le, fits}
 use lib.Ieee.Back.{round-whole}
 use lib.Ieee.Exact.{HasValue}
 use lib.Ieee.Fits.{down-pos, neg-fits}
