@@ -1,0 +1,179 @@
+-- How finite floats compare, sign by sign and as numbers: `le` is the order of their values, and turns round under `neg`. Assumes nothing.
+use mathlib.Core.Path.{_≡_, refl, sym, subst, _∙_}
+use mathlib.Core.Logic.{inl, inr}
+use mathlib.Core.Bool.{Bool, true, false, not, _&&_, _||_}
+use Prim.Native.Nat.{ℕ, suc, _+_, _*_, _≤_, _<_}
+use native.Mathlib.Nat.{le-of-lt, le-of-eq, le-trans, eq-or-lt-of-le, zero-mul, mul-one, mul-pos, zero-lt-suc}
+use native.Mathlib.Omega.{arith}
+use lib.Dec.{T, ltb, eqb, ltb→lt, lt→ltb, nltb→le, eqb→eq}
+use lib.Arith.{le→nltb}
+use lib.IntN.{ℤ, pos}
+use lib.Ieee.{Float, nan, inf, fin, up, down, below, level, lt, eq, le, neg}
+use lib.Ieee.Exact.{HasValue}
+use lib.Ieee.Fits.{and-l, and-r, and-i, eq→eqb, up-pos, down-pos}
+use lib.Ieee.Order.{transfer}
+use lib.Ieee.Scale.{finite}
+
+swap : (a b : ℕ) → a + b ≤ 0 → b + a ≤ 0
+swap a b h = omega arith
+
+-- ---- ±a ≤ ±b
+abbrev pub AtMost : Bool → ℕ → Bool → ℕ → Type 0
+AtMost false a false b = a ≤ b
+AtMost false a true b = a + b ≤ 0
+AtMost true a false b = T true
+AtMost true a true b = b ≤ a
+
+pub or-l : (a b : Bool) → T a → T (a || b)
+or-l true b t = tt
+or-l false b t = absurd t
+
+or-r : (a b : Bool) → T b → T (a || b)
+or-r true b t = tt
+or-r false b t = t
+
+-- one of two tests, `<` and `=`
+cases : (a b : ℕ) (p q : Bool) → (T p → a ≤ b) → (T q → a ≤ b) → T (p || (q && true)) → a ≤ b
+cases a b true q f g t = f tt
+cases a b false true f g t = g tt
+cases a b false false f g t = absurd t
+
+pub at-most : (s t : Bool) (a b : ℕ) → T (below s a t b || level s a t b) → AtMost s a t b
+at-most false false a b h = cases a b (ltb a b) (eqb a b) (λ u. le-of-lt (ltb→lt a b u)) (λ u. le-of-eq (eqb→eq a b u)) h
+at-most false true a b h = none a b (eqb→eq a b (and-l (eqb a b) (eqb a 0) h)) (eqb→eq a 0 (and-r (eqb a b) (eqb a 0) h))
+  where
+    none : (a b : ℕ) → a ≡ b → a ≡ 0 → a + b ≤ 0
+    none a b p q = omega arith
+at-most true false a b h = tt
+at-most true true a b h = cases b a (ltb b a) (eqb a b) (λ u. le-of-lt (ltb→lt b a u)) (λ u. le-of-eq (sym (eqb→eq a b u))) h
+
+level-zero : (a b : ℕ) → a + b ≤ 0 → T (eqb a b && eqb a 0)
+level-zero a b h = and-i (eqb a b) (eqb a 0) (eq→eqb (same a b h)) (eq→eqb (none a b h))
+  where
+    same : (a b : ℕ) → a + b ≤ 0 → a ≡ b
+    same a b h = omega arith
+
+    none : (a b : ℕ) → a + b ≤ 0 → a ≡ 0
+    none a b h = omega arith
+
+pub from-at-most : (s t : Bool) (a b : ℕ) → AtMost s a t b → T (below s a t b || level s a t b)
+from-at-most false false a b h = elim (eq-or-lt-of-le h) [ inl e ↦ or-r (ltb a b) (eqb a b && true) (and-i (eqb a b) true (eq→eqb e) tt) | inr l ↦ or-l (ltb a b) (eqb a b && true) (lt→ltb a b l) ]
+from-at-most false true a b h = level-zero a b h
+from-at-most true false a b h = go (ltb 0 (a + b)) (nltb→le 0 (a + b))
+  where
+    go : (t : Bool) → (T (not t) → a + b ≤ 0) → T (t || (eqb a b && eqb a 0))
+    go true f = tt
+    go false f = level-zero a b (f tt)
+from-at-most true true a b h = elim (eq-or-lt-of-le h) [ inl e ↦ or-r (ltb b a) (eqb a b && true) (and-i (eqb a b) true (eq→eqb (sym e)) tt) | inr l ↦ or-l (ltb b a) (eqb a b && true) (lt→ltb b a l) ]
+
+not-below : (s t : Bool) (a b : ℕ) → AtMost s a t b → T (not (below t b s a))
+not-below false false a b h = le→nltb b a h
+not-below false true a b h = le→nltb 0 (b + a) (swap a b h)
+not-below true false a b h = tt
+not-below true true a b h = le→nltb a b h
+
+pub not-lt-of-le : (x y : Float) → T (le x y) → T (not (lt y x))
+unfolding le lt eq
+not-lt-of-le nan y t = absurd t
+not-lt-of-le (inf s) nan t = absurd t
+not-lt-of-le (inf true) (inf true) t = tt
+not-lt-of-le (inf true) (inf false) t = tt
+not-lt-of-le (inf false) (inf true) t = absurd t
+not-lt-of-le (inf false) (inf false) t = tt
+not-lt-of-le (inf true) (fin u n d) t = tt
+not-lt-of-le (inf false) (fin u n d) t = absurd t
+not-lt-of-le (fin s m e) nan t = absurd t
+not-lt-of-le (fin s m e) (inf true) t = absurd t
+not-lt-of-le (fin s m e) (inf false) t = tt
+not-lt-of-le (fin s m e) (fin u n d) t = let a = m * up e * down d in let b = n * up d * down e in not-below s u a b (at-most s u a b t)
+
+-- ---- beside zero
+pub not-negative : (m : ℕ) (e : ℤ) → T (lt (fin false m e) (fin false 0 (pos 0))) → ⊥
+unfolding lt
+not-negative m e t = none (m * up e * 1) (down e) (ltb→lt (m * up e * 1) (0 * 1 * down e) t)
+  where
+    none : (a d : ℕ) → a < 0 * 1 * d → ⊥
+    none a d h = omega arith
+
+pub negative : (m : ℕ) (e : ℤ) → T (not (lt (fin true (suc m) e) (fin false 0 (pos 0)))) → ⊥
+unfolding lt
+negative m e t = none (suc m * up e) (0 * 1 * down e) (mul-pos (zero-lt-suc m) (up-pos e)) (nltb→le 0 (suc m * up e * 1 + 0 * 1 * down e) t)
+  where
+    none : (a z : ℕ) → 0 < a → a * 1 + z ≤ 0 → ⊥
+    none a z p q = omega arith
+
+pub above-zero : (m : ℕ) (e : ℤ) → 0 < m → T (lt (fin false 0 (pos 0)) (fin false m e))
+unfolding lt
+above-zero m e h = lt→ltb (0 * 1 * down e) (m * up e * 1) (room (m * up e) (down e) (mul-pos h (up-pos e)))
+  where
+    room : (a d : ℕ) → 0 < a → 0 * 1 * d < a * 1
+    room a d p = omega arith
+
+-- ---- as numbers: x is ±a / c and y is ±b / d
+at-most-value : (s t : Bool) (x y p q a b c d : ℕ) → 0 < c → 0 < d → x * c ≡ a * p → y * d ≡ b * q → AtMost s (a * d) t (b * c) → AtMost s (x * q) t (y * p)
+at-most-value false false x y p q a b c d C D e f h = transfer x y p q a b c d C D e f h
+at-most-value false true x y p q a b c d C D e f h =
+    both (x * q) (y * p)
+    (le-trans (transfer x 0 p q a 0 c d C D e (zero-mul d ∙ sym (zero-mul q)) (le-trans (first (a * d) (b * c) h) (le-of-eq (sym (zero-mul c))))) (le-of-eq (zero-mul p)))
+    (le-trans (transfer y 0 q p b 0 d c D C f (zero-mul c ∙ sym (zero-mul p)) (le-trans (second (a * d) (b * c) h) (le-of-eq (sym (zero-mul d))))) (le-of-eq (zero-mul q)))
+  where
+    first : (m n : ℕ) → m + n ≤ 0 → m ≤ 0
+    first m n h = omega arith
+
+    second : (m n : ℕ) → m + n ≤ 0 → n ≤ 0
+    second m n h = omega arith
+
+    both : (m n : ℕ) → m ≤ 0 → n ≤ 0 → m + n ≤ 0
+    both m n g h = omega arith
+at-most-value true false x y p q a b c d C D e f h = tt
+at-most-value true true x y p q a b c d C D e f h = transfer y x q p b a d c D C f e h
+
+pub le-of : (x y : Float) (s t : Bool) (a c b d : ℕ) → 0 < c → 0 < d → HasValue x s a c → HasValue y t b d → AtMost s (a * d) t (b * c) → T (le x y)
+unfolding le lt eq
+le-of nan y s t a c b d C D v w h = absurd v
+le-of (inf u) y s t a c b d C D v w h = absurd v
+le-of (fin u m e) nan s t a c b d C D v w h = absurd w
+le-of (fin u m e) (inf z) s t a c b d C D v w h = absurd w
+le-of (fin u m e) (fin z n g) s t a c b d C D v w h =
+    from-at-most u z (m * up e * down g) (n * up g * down e)
+    (subst (λ (k : Bool). AtMost k (m * up e * down g) z (n * up g * down e)) (sym (v .0))
+    (subst (λ (k : Bool). AtMost s (m * up e * down g) k (n * up g * down e)) (sym (w .0))
+    (at-most-value s t (m * up e) (n * up g) (down e) (down g) a b c d C D (v .1) (w .1) h)))
+
+pub of-le : (x y : Float) (s t : Bool) (a c b d : ℕ) → 0 < c → 0 < d → HasValue x s a c → HasValue y t b d → T (le x y) → AtMost s (a * d) t (b * c)
+unfolding le lt eq
+of-le nan y s t a c b d C D v w h = absurd v
+of-le (inf u) y s t a c b d C D v w h = absurd v
+of-le (fin u m e) nan s t a c b d C D v w h = absurd w
+of-le (fin u m e) (inf z) s t a c b d C D v w h = absurd w
+of-le (fin u m e) (fin z n g) s t a c b d C D v w h =
+    at-most-value s t a b c d (m * up e) (n * up g) (down e) (down g) (down-pos e) (down-pos g) (sym (v .1)) (sym (w .1))
+    (subst (λ (k : Bool). AtMost s (m * up e * down g) k (n * up g * down e)) (w .0)
+    (subst (λ (k : Bool). AtMost k (m * up e * down g) z (n * up g * down e)) (v .0) (at-most u z (m * up e * down g) (n * up g * down e) h)))
+
+-- a whole number of any size
+pub whole-value-of : (s : Bool) (n : ℕ) → HasValue (fin s n (pos 0)) s n 1
+whole-value-of s n = (refl, mul-one (n * 1))
+
+-- ---- upside down
+turned : (s t : Bool) (a b : ℕ) → AtMost s a t b → AtMost (not t) b (not s) a
+turned false false a b h = h
+turned false true a b h = swap a b h
+turned true false a b h = tt
+turned true true a b h = h
+
+pub le-neg : (x y : Float) → T (finite x) → T (finite y) → T (le x y) → T (le (neg y) (neg x))
+unfolding le lt eq neg
+le-neg nan y p q h = absurd p
+le-neg (inf s) y p q h = absurd p
+le-neg (fin s m e) nan p q h = absurd q
+le-neg (fin s m e) (inf t) p q h = absurd q
+le-neg (fin s m e) (fin t n d) p q h = let a = m * up e * down d in let b = n * up d * down e in from-at-most (not t) (not s) b a (turned s t a b (at-most s t a b h))
+
+pub neg-neg : (x : Float) → neg (neg x) ≡ x
+unfolding neg
+neg-neg nan = refl
+neg-neg (inf true) = refl
+neg-neg (inf false) = refl
+neg-neg (fin true m e) = refl
+neg-neg (fin false m e) = refl
