@@ -1,2 +1,4 @@
 -- Laws that belong to no one function. Assumes nothing.
 pub mod Near
+pub mod Sectors
+pub mod Parts
