@@ -1,14 +1,11 @@
 -- Two channels a multiply: a mix of 256 parts takes 16 binary places, so two channels 16 places apart do not meet. Assumes nothing.
 use mathlib.Core.Path.{_≡_}
 use Prim.Native.Nat.{ℕ, _+_, _-_, _*_, _/_, _≤_, _<_}
-use native.Mathlib.Nat.{add-mul, mul-add, mul-le-mul-right, mul-right-comm}
+use native.Mathlib.Nat.{add-mul, mul-right-comm}
 use native.Mathlib.Omega.{arith}
+use Rattle.color.proofs.Weights.{weighted-le}
 use Rattle.color.specs.Inks.{red, green, blue, packed}
 use Rattle.color.specs.Colours.{mixed256}
-
--- 256 parts of two numbers up to m
-pub parts-le : (m x y it t : ℕ) → x ≤ m → y ≤ m → it + t ≡ 256 → x * it + y * t ≤ m * 256
-parts-le m x y it t i j e = rw (← e, mul-add) (omega (arith, mul-le-mul-right it i, mul-le-mul-right t j))
 
 -- red and blue of one pixel, r and b, and of another, s and d
 spread : (r b s d it t : ℕ) → (r * 65536 + b) * it + (s * 65536 + d) * t ≡ (r * it + s * t) * 65536 + (b * it + d * t)
@@ -18,7 +15,7 @@ spread r b s d it t =
 
 module _ (a b t : ℕ) (h : t ≤ 256) where
   channels-le : (x y : ℕ) → x ≤ 255 → y ≤ 255 → x * (256 - t) + y * t ≤ 65280
-  channels-le x y i j = parts-le 255 x y (256 - t) t i j (omega arith)
+  channels-le x y = weighted-le 256 255 x y (256 - t) t (omega arith)
 
   reds : red a * (256 - t) + red b * t ≤ 65280
   reds = channels-le (red a) (red b) (omega arith) (omega arith)

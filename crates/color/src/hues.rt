@@ -4,7 +4,7 @@ ghost use mathlib.Core.Path.{_≡_};
 ghost use Rattle.color.specs.Colours.{byteOf, tonesOf, sectorOf, hsvOf};
 
 // A part from 0 to 1 as a byte, rounded.
-pub fn level(x: f32) -> u8
+pub(crate) fn level(x: f32) -> u8
     ensures { λ r. ⌜ r ≡ byteOf x ⌝ }
 {
     mathf::to_u8(x * 255.0 + 0.5)

@@ -6,7 +6,7 @@ ghost use Rattle.color.specs.Colours.{mixed256, mixPixOf};
 ghost use Rattle.color.specs.Inks.{red, green, blue};
 
 // One byte of the mix of two colours.
-pub fn between(a: u8, b: u8, t: f32) -> u8
+pub(crate) fn between(a: u8, b: u8, t: f32) -> u8
     ensures { λ r. ⌜ r ≡ Colours.between a b t ⌝ }
 {
     mathf::to_u8(a as f32 + (b as f32 - a as f32) * t + 0.5)

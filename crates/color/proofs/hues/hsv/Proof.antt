@@ -1,7 +1,6 @@
 -- `color::hues::hsv` meets its contract. Assumes nothing.
 use mir.Syntax.{w32}
 use mir.ValLaws.{toZ-ofZ}
-use mathlib.Core.Path.{_∙_}
 use Rattle.color.specs.Colours.{hsvOf}
 use borrow.Author.Needs.{needs}
 use Rattle.color.proofs.hues.hsv.Statement.{statement}
@@ -19,9 +18,9 @@ sector-requires c κs = search needs
 returns : tie.Need-returns
 unfolding hsvOf
 returns c =
-    let kept = toZ-ofZ w32 (c .before .to-i32 .result) (record { sfits = c .before .to-i32 .ok }) in
-    let e = simp kept at (c .sector .ensures) in
-    e ∙ simp (c .before .to-i32 .ensures, c .before .before .floor .ensures)
+    let i = c .before .to-i32 in
+    simp (c .sector .ensures, toZ-ofZ w32 (i .result) (record { sfits = i .ok }))
+    (simp (i .ensures, c .before .before .floor .ensures))
 
 pub hsv-spec : {M : Type 1} → statement M
 hsv-spec = tie.close (tie.spec floor-requires to-i32-requires sector-requires returns)

@@ -3,7 +3,8 @@ use mathlib.Core.Path.{_∙_}
 use Prim.Native.Nat.{_+_, _-_, _*_, _≤_}
 use native.Mathlib.Nat.{mul-le-mul-right}
 use native.Mathlib.Omega.{arith}
-use Rattle.color.proofs.Parts.{parts-le, green-mixed}
+use Rattle.color.proofs.Weights.{weighted-le}
+use Rattle.color.proofs.Parts.{green-mixed}
 use borrow.Author.Needs.{needs}
 use Rattle.color.proofs.mixing.mix_green.Statement.{statement}
 use Rattle.color.proofs.mixing.mix_green.Tie as tie
@@ -12,7 +13,7 @@ only-green-requires : tie.Need-only-green-requires
 only-green-requires c κs = search needs
 
 sub-only-green : tie.Need-sub-only-green
-sub-only-green c = search needs
+sub-only-green c = omega arith
 
 first : (c : tie.After-only-green) → c .only-green .result * (256 - c .before .args .t) ≤ 65280 * (256 - c .before .args .t)
 first c = mul-le-mul-right (256 - c .before .args .t) (omega arith)
@@ -26,7 +27,7 @@ only-green-requires-2 c κs = search needs
 both : (c : tie.After-only-green2) → c .before .only-green .result * (256 - c .before .before .args .t) + c .only-green2 .result * c .before .before .args .t ≤ 65280 * 256
 both c =
     let t = c .before .before .args .t in
-    parts-le 65280 (c .before .only-green .result) (c .only-green2 .result) (256 - t) t (omega arith) (omega arith) (omega arith)
+    weighted-le 256 65280 (c .before .only-green .result) (c .only-green2 .result) (256 - t) t (omega arith) (omega arith) (omega arith)
 
 mul-only-green-2 : tie.Need-mul-only-green-2
 mul-only-green-2 c = omega (arith, both c)

@@ -3,7 +3,8 @@ use mathlib.Core.Path.{_∙_}
 use Prim.Native.Nat.{_+_, _-_, _*_, _≤_}
 use native.Mathlib.Nat.{mul-le-mul-right}
 use native.Mathlib.Omega.{arith}
-use Rattle.color.proofs.Parts.{parts-le, red-blue-mixed}
+use Rattle.color.proofs.Weights.{weighted-le}
+use Rattle.color.proofs.Parts.{red-blue-mixed}
 use borrow.Author.Needs.{needs}
 use Rattle.color.proofs.mixing.mix_red_blue.Statement.{statement}
 use Rattle.color.proofs.mixing.mix_red_blue.Tie as tie
@@ -12,7 +13,7 @@ red-blue-requires : tie.Need-red-blue-requires
 red-blue-requires c κs = search needs
 
 sub-red-blue : tie.Need-sub-red-blue
-sub-red-blue c = search needs
+sub-red-blue c = omega arith
 
 first : (c : tie.After-red-blue) → c .red-blue .result * (256 - c .before .args .t) ≤ 16711935 * (256 - c .before .args .t)
 first c = mul-le-mul-right (256 - c .before .args .t) (omega arith)
@@ -26,7 +27,7 @@ red-blue-requires-2 c κs = search needs
 both : (c : tie.After-red-blue2) → c .before .red-blue .result * (256 - c .before .before .args .t) + c .red-blue2 .result * c .before .before .args .t ≤ 16711935 * 256
 both c =
     let t = c .before .before .args .t in
-    parts-le 16711935 (c .before .red-blue .result) (c .red-blue2 .result) (256 - t) t (omega arith) (omega arith) (omega arith)
+    weighted-le 256 16711935 (c .before .red-blue .result) (c .red-blue2 .result) (256 - t) t (omega arith) (omega arith) (omega arith)
 
 mul-red-blue-2 : tie.Need-mul-red-blue-2
 mul-red-blue-2 c = omega (arith, both c)
