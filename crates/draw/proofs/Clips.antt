@@ -7,36 +7,24 @@
 use mathlib.Core.Path.{_≡_, refl, sym, ap, _∙_}
 use mathlib.Core.Bool.{Bool, true, false, cond, _&&_}
 use mathlib.Core.List.{List}
+use mathlib.Core.Logic.{_⊎_, ⊎-elim}
 use Prim.Native.Nat.{ℕ, _*_, _/_, _%_, _≤_, _<_}
 use native.Mathlib.Nat.{mul-le-mul-right, zero-mul}
 use native.Mathlib.Omega.{arith}
-use lib.Dec.{leb, ltb}
-use lib.IntN.{ℤ, pos, negsuc}
-use lib.Signed.{leZ, ltZ}
-use borrow.Author.Tests.{le-leb, le-ltb}
-use lib.ListN.{length}
+use lib.IntN.{pos}
 use Rattle.geom.specs.declared.IRect.{IRect}
-use Rattle.geom.specs.Int.{up}
-use Rattle.geom.specs.Box.{inside, meet, empty}
-use Rattle.geom.proofs.Boxes.{in-meet, in-empty}
+use Rattle.geom.specs.Box.{boxOf, inside, meet, empty}
+use Rattle.geom.proofs.Bools.{split}
+use Rattle.geom.proofs.Int.{orderZ}
+use Rattle.geom.proofs.Boxes.{in-pixel, in-meet, in-empty, Within, meet-right, cut-in, holds-full, within-nat}
 use Rattle.draw.specs.declared.Area.{Area}
 use Rattle.draw.specs.Draw.{onto, meets, drawn}
-use Rattle.draw.specs.Areas.{within, area, inArea, areaOf, drawnIn, clipTo}
-use Rattle.draw.proofs.Rows.{off, within-none}
-
--- ---- a box and its area
-
-from-side : (z : ℤ) (x : ℕ) → leZ z (pos x) ≡ leb (up z) x
-from-side (pos n) x = refl
-from-side (negsuc n) x = sym (le-leb 0 x (omega arith))
-
-upto-side : (z : ℤ) (x : ℕ) → ltZ (pos x) z ≡ ltb x (up z)
-upto-side (pos n) x = refl
-upto-side (negsuc n) x = sym (le-ltb x 0 (omega arith))
+use Rattle.draw.specs.Areas.{within, area, inArea, areaOf, drawnIn, clipTo, AreaFits}
+use Rattle.draw.proofs.Rows.{within-none}
 
 pub in-area : (b : IRect) (x y : ℕ) → inside b (pos x) (pos y) ≡ inArea (areaOf b) x y
-unfolding inside within
-in-area b x y = rw (from-side (b .x0) x, upto-side (b .x1) x, from-side (b .y0) y, upto-side (b .y1) y)
+unfolding within
+in-area b x y = in-pixel b x y
 
 -- ---- what a clip lets through
 
@@ -67,9 +55,32 @@ drawn-clip pitch clip reach ink px = simp (in-clip reach clip)
 
 -- ---- within px
 
--- a clip that is not empty lies in a canvas of w columns and h rows
-pub record InCanvas (w h : ℕ) (clip : IRect) : Type 0 where
-  pub left : leZ (pos 0) (clip .x0) ≡ true
-  pub right : leZ (clip .x1) (pos w) ≡ true
-  pub top : leZ (pos 0) (clip .y0) ≡ true
-  pub bottom : leZ (clip .y1) (pos h) ≡ true
+nothing-fits : (pitch n : ℕ) → AreaFits pitch (area 0 0 0 0) n
+nothing-fits pitch n =
+    record { across = omega arith; down = omega arith; right = omega arith; bottom = rw zero-mul (omega arith); wide = omega arith; high = omega arith }
+
+-- the clip is empty, or lies in a canvas of w columns and h rows
+pub clip-fits : (pitch w h n : ℕ) (reach clip : IRect) → (empty clip ≡ true) ⊎ Within (boxOf (pos 0) (pos 0) (pos w) (pos h)) clip
+    → w ≤ pitch → w ≤ 2048 → h ≤ 2048 → h * pitch ≤ n → AreaFits pitch (clipTo reach clip) n
+unfolding clipTo
+clip-fits pitch w h n reach clip ok p q r s =
+    split (empty m) (λ t. AreaFits pitch (cond t (area 0 0 0 0) (areaOf m)) n) (λ e. nothing-fits pitch n) (λ e. ⊎-elim (λ g. none e g) (λ i. some e i) ok)
+  where
+    m : IRect
+    m = meet reach clip
+
+    none : empty m ≡ false → empty clip ≡ true → AreaFits pitch (areaOf m) n
+    none e g = let z : true ≡ false = sym g ∙ holds-full clip m (meet-right reach clip) e in let y : _≡_ {A = ℕ} 0 1 = cc in absurd (omega arith)
+
+    some : empty m ≡ false → Within (boxOf (pos 0) (pos 0) (pos w) (pos h)) clip → AreaFits pitch (areaOf m) n
+    some e i =
+        let j = cut-in reach clip e .1 in
+        let f = within-nat w h m (omega (orderZ, i .left, i .right, i .top, i .bottom)) in
+        record {
+          across = omega arith;
+          down = omega arith;
+          right = omega arith;
+          bottom = omega (arith, mul-le-mul-right pitch (f .3));
+          wide = omega arith;
+          high = omega arith;
+        }
