@@ -1,9 +1,9 @@
--- How finite floats compare, sign by sign and as numbers: `le` is the order of their values, and turns round under `neg`. Assumes nothing.
-use mathlib.Core.Path.{_≡_, refl, sym, subst, _∙_}
+-- How floats compare, sign by sign and as numbers: `le` is the order of the values, goes through, and turns round under `neg`. Assumes nothing.
+use mathlib.Core.Path.{_≡_, refl, sym, ap, subst, _∙_}
 use mathlib.Core.Logic.{inl, inr}
 use mathlib.Core.Bool.{Bool, true, false, not, _&&_, _||_}
 use Prim.Native.Nat.{ℕ, zero, suc, _+_, _*_, _≤_, _<_}
-use native.Mathlib.Nat.{le-refl, add-mul, mul-right-comm, mul-le-mul-right, le-of-mul-le-mul-right, le-of-lt, le-of-eq, le-trans, eq-or-lt-of-le, zero-mul, mul-one, mul-pos, zero-lt-suc}
+use native.Mathlib.Nat.{le-refl, add-mul, mul-right-comm, mul-le-mul-right, le-of-mul-le-mul-right, le-of-lt, le-of-eq, le-trans, eq-or-lt-of-le, zero-mul, mul-one, mul-pos, mul-comm, mul-mul-mul-comm, zero-lt-suc}
 use native.Mathlib.Omega.{arith}
 use lib.Dec.{T, ltb, eqb, ltb→lt, lt→ltb, nltb→le, eqb→eq}
 use lib.Arith.{le→nltb}
@@ -11,7 +11,6 @@ use lib.IntN.{ℤ, pos}
 use lib.Ieee.{Float, nan, inf, fin, up, down, below, level, lt, eq, le, neg}
 use lib.Ieee.Exact.{HasValue}
 use lib.Ieee.Fits.{and-l, and-r, and-i, eq→eqb, up-pos, down-pos}
-use lib.Ieee.Order.{transfer}
 use lib.Ieee.Scale.{finite}
 
 -- ---- a sum that is zero
@@ -31,6 +30,38 @@ AtMost false a true b = a + b ≤ 0
 AtMost true a false b = T true
 AtMost true a true b = b ≤ a
 
+pub at-most-same : (s : Bool) (a : ℕ) → AtMost s a s a
+at-most-same false a = le-refl a
+at-most-same true a = le-refl a
+
+at-most-trans : (s t u : Bool) (a b c : ℕ) → AtMost s a t b → AtMost t b u c → AtMost s a u c
+at-most-trans false false false a b c h k = le-trans h k
+at-most-trans false false true a b c h k = omega arith
+at-most-trans false true false a b c h k = omega arith
+at-most-trans false true true a b c h k = omega arith
+at-most-trans true t false a b c h k = tt
+at-most-trans true false true a b c h k = omega arith
+at-most-trans true true true a b c h k = le-trans k h
+
+pub at-most-times : (s t : Bool) (a b k : ℕ) → AtMost s a t b → AtMost s (a * k) t (b * k)
+at-most-times false false a b k h = mul-le-mul-right k h
+at-most-times false true a b k h = le-trans (le-of-eq (sym (add-mul a b k))) (le-trans (mul-le-mul-right k h) (le-of-eq (zero-mul k)))
+at-most-times true false a b k h = tt
+at-most-times true true a b k h = mul-le-mul-right k h
+
+at-most-back : (s t : Bool) (a b k : ℕ) → 0 < k → AtMost s (a * k) t (b * k) → AtMost s a t b
+at-most-back false false a b k p h = le-of-mul-le-mul-right h p
+at-most-back false true a b k p h = le-of-mul-le-mul-right (le-trans (le-of-eq (add-mul a b k)) (le-trans h (le-of-eq (sym (zero-mul k))))) p
+at-most-back true false a b k p h = tt
+at-most-back true true a b k p h = le-of-mul-le-mul-right h p
+
+turned : (s t : Bool) (a b : ℕ) → AtMost s a t b → AtMost (not t) b (not s) a
+turned false false a b h = h
+turned false true a b h = swap a b h
+turned true false a b h = tt
+turned true true a b h = h
+
+-- ---- how `le` compares
 pub or-l : (a b : Bool) → T a → T (a || b)
 or-l true b t = tt
 or-l false b t = absurd t
@@ -123,17 +154,15 @@ above-zero m e h = lt→ltb (0 * 1 * down e) (m * up e * 1) (room (m * up e) (do
     room a d p = omega arith
 
 -- ---- as numbers: x is ±a / c and y is ±b / d
+crossed : (x a c p d q : ℕ) → x * c ≡ a * p → a * d * (p * q) ≡ x * q * (c * d)
+crossed x a c p d q e = mul-mul-mul-comm a d p q ∙ ap (λ (z : ℕ). z * (d * q)) (sym e) ∙ ap (λ (z : ℕ). x * c * z) (mul-comm d q) ∙ sym (mul-mul-mul-comm x q c d)
+
 at-most-value : (s t : Bool) (x y p q a b c d : ℕ) → 0 < c → 0 < d → x * c ≡ a * p → y * d ≡ b * q → AtMost s (a * d) t (b * c) → AtMost s (x * q) t (y * p)
-at-most-value false false x y p q a b c d C D e f h = transfer x y p q a b c d C D e f h
-at-most-value false true x y p q a b c d C D e f h =
-    both (x * q) (y * p)
-    (le-trans (transfer x 0 p q a 0 c d C D e (zero-mul d ∙ sym (zero-mul q)) (le-trans (left-zero (a * d) (b * c) h) (le-of-eq (sym (zero-mul c))))) (le-of-eq (zero-mul p)))
-    (le-trans (transfer y 0 q p b 0 d c D C f (zero-mul c ∙ sym (zero-mul p)) (le-trans (right-zero (a * d) (b * c) h) (le-of-eq (sym (zero-mul d))))) (le-of-eq (zero-mul q)))
-  where
-    both : (m n : ℕ) → m ≤ 0 → n ≤ 0 → m + n ≤ 0
-    both m n g h = omega arith
-at-most-value true false x y p q a b c d C D e f h = tt
-at-most-value true true x y p q a b c d C D e f h = transfer y x q p b a d c D C f e h
+at-most-value s t x y p q a b c d C D e f h =
+    at-most-back s t (x * q) (y * p) (c * d) (mul-pos C D)
+    (subst (λ (z : ℕ). AtMost s z t (y * p * (c * d))) (crossed x a c p d q e)
+    (subst (λ (z : ℕ). AtMost s (a * d * (p * q)) t z) (ap (λ (z : ℕ). b * c * z) (mul-comm p q) ∙ crossed y b d q c p f ∙ ap (λ (z : ℕ). y * p * z) (mul-comm d c))
+    (at-most-times s t (a * d) (b * c) (p * q) h)))
 
 pub le-of : (x y : Float) (s t : Bool) (a c b d : ℕ) → 0 < c → 0 < d → HasValue x s a c → HasValue y t b d → AtMost s (a * d) t (b * c) → T (le x y)
 unfolding le lt eq
@@ -168,36 +197,11 @@ finite-value nan s a c v = v
 finite-value (inf t) s a c v = v
 finite-value (fin t m e) s a c v = tt
 
-pub at-most-same : (s : Bool) (a : ℕ) → AtMost s a s a
-at-most-same false a = le-refl a
-at-most-same true a = le-refl a
-
 pub le-same : (x : Float) → T (finite x) → T (le x x)
 unfolding le lt eq
 le-same nan p = absurd p
 le-same (inf s) p = absurd p
 le-same (fin s m e) p = from-at-most s s (m * up e * down e) (m * up e * down e) (at-most-same s (m * up e * down e))
-
-at-most-trans : (s t u : Bool) (a b c : ℕ) → AtMost s a t b → AtMost t b u c → AtMost s a u c
-at-most-trans false false false a b c h k = le-trans h k
-at-most-trans false false true a b c h k = omega arith
-at-most-trans false true false a b c h k = omega arith
-at-most-trans false true true a b c h k = omega arith
-at-most-trans true t false a b c h k = tt
-at-most-trans true false true a b c h k = omega arith
-at-most-trans true true true a b c h k = le-trans k h
-
-pub at-most-times : (s t : Bool) (a b k : ℕ) → AtMost s a t b → AtMost s (a * k) t (b * k)
-at-most-times false false a b k h = mul-le-mul-right k h
-at-most-times false true a b k h = le-trans (le-of-eq (sym (add-mul a b k))) (le-trans (mul-le-mul-right k h) (le-of-eq (zero-mul k)))
-at-most-times true false a b k h = tt
-at-most-times true true a b k h = mul-le-mul-right k h
-
-at-most-back : (s t : Bool) (a b k : ℕ) → 0 < k → AtMost s (a * k) t (b * k) → AtMost s a t b
-at-most-back false false a b k p h = le-of-mul-le-mul-right h p
-at-most-back false true a b k p h = le-of-mul-le-mul-right (le-trans (le-of-eq (add-mul a b k)) (le-trans h (le-of-eq (sym (zero-mul k))))) p
-at-most-back true false a b k p h = tt
-at-most-back true true a b k p h = le-of-mul-le-mul-right h p
 
 -- x / p, y / q and z / r in this order
 at-most-through : (s t u : Bool) (x y z p q r : ℕ) → 0 < q → AtMost s (x * q) t (y * p) → AtMost t (y * r) u (z * q) → AtMost s (x * r) u (z * p)
@@ -237,12 +241,6 @@ le-through (fin s m e) (fin t n d) (fin u l g) h k =
     (at-most-through s t u (m * up e) (n * up d) (l * up g) (down e) (down d) (down g) (down-pos d) (at-most s t (m * up e * down d) (n * up d * down e) h) (at-most t u (n * up d * down g) (l * up g * down d) k))
 
 -- ---- upside down
-turned : (s t : Bool) (a b : ℕ) → AtMost s a t b → AtMost (not t) b (not s) a
-turned false false a b h = h
-turned false true a b h = swap a b h
-turned true false a b h = tt
-turned true true a b h = h
-
 pub le-neg : (x y : Float) → T (le x y) → T (le (neg y) (neg x))
 unfolding le lt eq neg
 le-neg nan y h = absurd h

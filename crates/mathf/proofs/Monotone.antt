@@ -1,16 +1,17 @@
 -- The operations keep the order: of two numbers the larger has a sum, a difference, a root, a floor and a ceiling that are no smaller, and a product if neither is below zero. A rounded result may be an infinity. Assumes nothing.
 use mathlib.Core.Path.{_≡_, refl, sym, ap, subst, _∙_}
 use mathlib.Core.Bool.{Bool, true, false, not, cond, true≢false}
-use Prim.Native.Nat.{ℕ, zero, suc, _+_, _-_, _*_, _^_, _≤_, _<_, zero-le}
-use native.Mathlib.Nat.{le-of-eq, le-trans, le-of-mul-le-mul-right, mul-le-mul, mul-pos, mul-comm, mul-mul-mul-comm, zero-mul, mul-zero, zero-lt-suc, le-add-right, add-mul, not-le-of-lt}
+use Prim.Native.Nat.{ℕ, zero, suc, _+_, _-_, _*_, _/_, _^_, _≤_, _<_, zero-le, min}
+use native.Mathlib.Nat.{le-refl, zero-div, le-of-eq, le-trans, le-of-mul-le-mul-right, mul-le-mul, mul-pos, mul-comm, mul-mul-mul-comm, zero-mul, mul-zero, zero-lt-suc, le-add-right, add-mul, not-le-of-lt}
 use native.Mathlib.Omega.{arith}
 use lib.Dec.{T, ltb, ltb→lt, lt→ltb, nltb→le}
 use lib.IntN.{ℤ, pos}
 use lib.Arith.{le-zero}
 use lib.Pow.{pow-pos}
-use lib.Ieee.{Float, nan, inf, fin, Format, binary32, prec, up, down, round, unlike, sum, add, sub, mul, neg, lt, eq, le, units, fits, low, emax, odd}
+use lib.Ieee.{Float, nan, inf, fin, Format, binary32, prec, up, down, round, unlike, sum, add, sub, mul, neg, lt, eq, le, units, fits, low, emax, odd, toUnsigned}
 use lib.Ieee.Exact.{HasValue, round-exact, odd-sign}
 use lib.Ieee.Fits.{up-pos, down-pos, round-is, neg-fits}
+use lib.Ieee.Nearest.{div-mono}
 use lib.Ieee.Order.{round-mono}
 use lib.Ieee.Scale.{finite}
 use Rattle.mathf.specs.Root.{rootUnits, sqrtOf}
@@ -297,7 +298,7 @@ root-order (fin false (suc m) e) (fin false (suc n) d) f g a b h = root-mono (fi
 pub sqrt-mono : (x y : Float) → T (fits binary32 x) → T (fits binary32 y) → T (le (fin false 0 (pos 0)) x) → T (le x y) → T (le (sqrtOf x) (sqrtOf y))
 sqrt-mono x y f g a h = let zero = fin false 0 (pos 0) in root-order x y f g (not-lt-of-le zero x a) (not-lt-of-le zero y (le-through zero x y a h)) h
 
--- ---- whole numbers
+-- ---- whole numbers, and a float cut to one
 same-value : (x y : Float) (s : Bool) (a : ℕ) → HasValue x s a 1 → HasValue y s a 1 → T (le x y)
 same-value x y s a v w = le-of x y s s a 1 a 1 (pow-pos 0) (pow-pos 0) v w (at-most-same s (a * 1))
 
@@ -315,3 +316,30 @@ ceil-mono x y f g p q h =
     (subst (λ (z : Float). T (le (neg (floorOf (neg x))) z)) (ceil-is y)
     (le-neg (floorOf (neg y)) (floorOf (neg x))
     (floor-mono (neg y) (neg x) (neg-fits binary32 y g) (neg-fits binary32 x f) (neg-finite y q) (neg-finite x p) (le-neg x y h))))
+
+pub unsigned-mono : (w : ℕ) (x y : Float) → T (le x y) → toUnsigned w x ≤ toUnsigned w y
+unfolding le lt eq toUnsigned
+unsigned-mono w nan y h = absurd h
+unsigned-mono w (inf true) y h = zero-le
+unsigned-mono w (inf false) nan h = absurd h
+unsigned-mono w (inf false) (inf true) h = absurd h
+unsigned-mono w (inf false) (inf false) h = le-refl (2 ^ w - 1)
+unsigned-mono w (inf false) (fin t n d) h = absurd h
+unsigned-mono w (fin true m e) y h = zero-le
+unsigned-mono w (fin false m e) nan h = absurd h
+unsigned-mono w (fin false m e) (inf true) h = absurd h
+unsigned-mono w (fin false m e) (inf false) h = capped (m * up e / down e) (2 ^ w - 1)
+  where
+    capped : (a c : ℕ) → min a c ≤ c
+    capped a c = omega arith
+unsigned-mono w (fin false m e) (fin true n d) h =
+    none (m * up e / down e) (2 ^ w - 1)
+    (le-trans (div-mono (m * up e) (down e) 0 (down d) (down-pos e) (down-pos d) (le-trans (left-zero (m * up e * down d) (n * up d * down e) (at-most false true (m * up e * down d) (n * up d * down e) h)) zero-le)) (le-of-eq (zero-div (down d))))
+  where
+    none : (a c : ℕ) → a ≤ 0 → min a c ≤ 0
+    none a c h = omega arith
+unsigned-mono w (fin false m e) (fin false n d) h =
+    kept (m * up e / down e) (n * up d / down d) (2 ^ w - 1) (div-mono (m * up e) (down e) (n * up d) (down d) (down-pos e) (down-pos d) (at-most false false (m * up e * down d) (n * up d * down e) h))
+  where
+    kept : (a b c : ℕ) → a ≤ b → min a c ≤ min b c
+    kept a b c h = omega arith
