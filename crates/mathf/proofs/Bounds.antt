@@ -3,7 +3,7 @@
 use mathlib.Core.Path.{_≡_, refl, sym, ap, subst, _∙_}
 use mathlib.Core.Bool.{Bool, true, false, not, cond, _||_, true≢false}
 use Prim.Native.Nat.{ℕ, zero, suc, _+_, _-_, _*_, _/_, _^_, _≤_, _<_, zero-le, min}
-use native.Mathlib.Nat.{lt-of-not-le, le-of-eq, le-refl, le-trans, lt-of-le-of-lt, mul-one, div-lt-iff-lt-mul, le-of-suc-le-suc, suc-mul}
+use native.Mathlib.Nat.{lt-of-not-le, le-of-eq, le-trans, lt-of-le-of-lt, mul-one, div-lt-iff-lt-mul, le-of-suc-le-suc, suc-mul}
 use native.Mathlib.Omega.{arith}
 use lib.Dec.{T, T-not, le→leb, lt→ltb, lit≤, lit<}
 use lib.Arith.{le→nltb}
@@ -20,7 +20,7 @@ use lib.Ieee.Back.{round-whole, positive-back, negative-back}
 use Rattle.mathf.specs.Order.{minOf, maxOf, clampOf}
 use Rattle.mathf.specs.F32.{f0}
 use Rattle.mathf.specs.Whole.{floorOf, ceilOf, wholeOf, cutDown, takenUp}
-use Rattle.mathf.proofs.Compared.{negative, le-of, not-lt-of-le}
+use Rattle.mathf.proofs.Compared.{no-size, le-of, le-same, finite-value, not-lt-of-le}
 use Rattle.mathf.proofs.Floors.{ge-whole, zero-cut, zero-taken}
 
 -- ---- a whole float as an integer
@@ -65,12 +65,6 @@ index-of : (s : Bool) (n k : ℕ) → n ≤ 2 ^ 24 → k ≤ n → (s ≡ true �
 index-of false n k b l z = record { at = k; is = signed-whole false k (le-trans l b); within = l }
 index-of true n k b l z = record { at = 0; is = signed-whole true k (le-trans l b) ∙ ap (λ (i : ℕ). negℤ (pos i)) (z refl); within = zero-le }
 
--- a negative number that is not below 0 is -0
-no-size : (m : ℕ) (e : ℤ) → T (not (lt (fin true m e) (fin false 0 (pos 0)))) → m ≡ 0
-unfolding lt
-no-size zero e t = refl
-no-size (suc m) e t = absurd (negative m e t)
-
 not-inf : (hi : Float) (n : ℕ) → HasValue hi false n 1 → T (not (lt hi (inf false))) → ⊥
 unfolding lt
 not-inf nan n v t = v
@@ -112,20 +106,13 @@ not-below-zero (fin false p g) n v = le→nltb (p * up g * 1) (0 * 1 * down g) (
     none : (a d : ℕ) → 0 * 1 * d ≤ a
     none a d = omega arith
 
-not-below-itself : (hi : Float) (n : ℕ) → HasValue hi false n 1 → T (not (lt hi hi))
-unfolding lt
-not-below-itself nan n v = absurd v
-not-below-itself (inf s) n v = absurd v
-not-below-itself (fin true p g) n v = absurd (true≢false (v .0))
-not-below-itself (fin false p g) n v = le→nltb (p * up g * down g) (p * up g * down g) (le-refl (p * up g * down g))
-
 pub clamp-within : (n : ℕ) (x hi : Float) → HasValue hi false n 1 → Within n (clampOf x f0 hi)
 unfolding ofBits
 clamp-within n x hi v = go (lt x (fin false 0 (pos 0))) (lt hi x) (λ t. t) (λ t. t)
   where
     go : (a b : Bool) → (T (not a) → T (not (lt x (fin false 0 (pos 0))))) → (T (not b) → T (not (lt hi x))) → Within n (cond a (fin false 0 (pos 0)) (cond b hi x))
     go true b f g = record { hi = hi; whole = v; low = unfold lt in tt; high = not-below-zero hi n v }
-    go false true f g = record { hi = hi; whole = v; low = not-below-zero hi n v; high = not-below-itself hi n v }
+    go false true f g = record { hi = hi; whole = v; low = not-below-zero hi n v; high = not-lt-of-le hi hi (le-same hi (finite-value hi false n 1 v)) }
     go false false f g = record { hi = hi; whole = v; low = f tt; high = g tt }
 
 -- `n as f32`, for an n up to 2 ^ 24, is the whole number n

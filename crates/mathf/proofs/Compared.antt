@@ -1,9 +1,9 @@
--- How finite floats compare, sign by sign and as numbers: `le` is the order of their values, and turns round under `neg`. Assumes nothing.
-use mathlib.Core.Path.{_≡_, refl, sym, subst, _∙_}
+-- How floats compare, sign by sign and as numbers: `le` is the order of the values, goes through, and turns round under `neg`. Assumes nothing.
+use mathlib.Core.Path.{_≡_, refl, sym, ap, subst, _∙_}
 use mathlib.Core.Logic.{inl, inr}
 use mathlib.Core.Bool.{Bool, true, false, not, _&&_, _||_}
-use Prim.Native.Nat.{ℕ, suc, _+_, _*_, _≤_, _<_}
-use native.Mathlib.Nat.{le-of-lt, le-of-eq, le-trans, eq-or-lt-of-le, zero-mul, mul-one, mul-pos, zero-lt-suc}
+use Prim.Native.Nat.{ℕ, zero, suc, _+_, _*_, _≤_, _<_}
+use native.Mathlib.Nat.{le-refl, add-mul, mul-right-comm, mul-le-mul-right, le-of-mul-le-mul-right, le-of-lt, le-of-eq, le-trans, eq-or-lt-of-le, zero-mul, mul-one, mul-pos, mul-comm, mul-mul-mul-comm, zero-lt-suc}
 use native.Mathlib.Omega.{arith}
 use lib.Dec.{T, ltb, eqb, ltb→lt, lt→ltb, nltb→le, eqb→eq}
 use lib.Arith.{le→nltb}
@@ -11,11 +11,17 @@ use lib.IntN.{ℤ, pos}
 use lib.Ieee.{Float, nan, inf, fin, up, down, below, level, lt, eq, le, neg}
 use lib.Ieee.Exact.{HasValue}
 use lib.Ieee.Fits.{and-l, and-r, and-i, eq→eqb, up-pos, down-pos}
-use lib.Ieee.Order.{transfer}
 use lib.Ieee.Scale.{finite}
 
+-- ---- a sum that is zero
 swap : (a b : ℕ) → a + b ≤ 0 → b + a ≤ 0
 swap a b h = omega arith
+
+pub left-zero : (a b : ℕ) → a + b ≤ 0 → a ≤ 0
+left-zero a b h = omega arith
+
+pub right-zero : (a b : ℕ) → a + b ≤ 0 → b ≤ 0
+right-zero a b h = omega arith
 
 -- ---- ±a ≤ ±b
 abbrev pub AtMost : Bool → ℕ → Bool → ℕ → Type 0
@@ -24,6 +30,38 @@ AtMost false a true b = a + b ≤ 0
 AtMost true a false b = T true
 AtMost true a true b = b ≤ a
 
+pub at-most-same : (s : Bool) (a : ℕ) → AtMost s a s a
+at-most-same false a = le-refl a
+at-most-same true a = le-refl a
+
+at-most-trans : (s t u : Bool) (a b c : ℕ) → AtMost s a t b → AtMost t b u c → AtMost s a u c
+at-most-trans false false false a b c h k = le-trans h k
+at-most-trans false false true a b c h k = omega arith
+at-most-trans false true false a b c h k = omega arith
+at-most-trans false true true a b c h k = omega arith
+at-most-trans true t false a b c h k = tt
+at-most-trans true false true a b c h k = omega arith
+at-most-trans true true true a b c h k = le-trans k h
+
+pub at-most-times : (s t : Bool) (a b k : ℕ) → AtMost s a t b → AtMost s (a * k) t (b * k)
+at-most-times false false a b k h = mul-le-mul-right k h
+at-most-times false true a b k h = le-trans (le-of-eq (sym (add-mul a b k))) (le-trans (mul-le-mul-right k h) (le-of-eq (zero-mul k)))
+at-most-times true false a b k h = tt
+at-most-times true true a b k h = mul-le-mul-right k h
+
+at-most-back : (s t : Bool) (a b k : ℕ) → 0 < k → AtMost s (a * k) t (b * k) → AtMost s a t b
+at-most-back false false a b k p h = le-of-mul-le-mul-right h p
+at-most-back false true a b k p h = le-of-mul-le-mul-right (le-trans (le-of-eq (add-mul a b k)) (le-trans h (le-of-eq (sym (zero-mul k))))) p
+at-most-back true false a b k p h = tt
+at-most-back true true a b k p h = le-of-mul-le-mul-right h p
+
+turned : (s t : Bool) (a b : ℕ) → AtMost s a t b → AtMost (not t) b (not s) a
+turned false false a b h = h
+turned false true a b h = swap a b h
+turned true false a b h = tt
+turned true true a b h = h
+
+-- ---- how `le` compares
 pub or-l : (a b : Bool) → T a → T (a || b)
 or-l true b t = tt
 or-l false b t = absurd t
@@ -102,6 +140,12 @@ negative m e t = none (suc m * up e) (0 * 1 * down e) (mul-pos (zero-lt-suc m) (
     none : (a z : ℕ) → 0 < a → a * 1 + z ≤ 0 → ⊥
     none a z p q = omega arith
 
+-- a negative number that is not below 0 is -0
+pub no-size : (m : ℕ) (e : ℤ) → T (not (lt (fin true m e) (fin false 0 (pos 0)))) → m ≡ 0
+unfolding lt
+no-size zero e t = refl
+no-size (suc m) e t = absurd (negative m e t)
+
 pub above-zero : (m : ℕ) (e : ℤ) → 0 < m → T (lt (fin false 0 (pos 0)) (fin false m e))
 unfolding lt
 above-zero m e h = lt→ltb (0 * 1 * down e) (m * up e * 1) (room (m * up e) (down e) (mul-pos h (up-pos e)))
@@ -110,23 +154,15 @@ above-zero m e h = lt→ltb (0 * 1 * down e) (m * up e * 1) (room (m * up e) (do
     room a d p = omega arith
 
 -- ---- as numbers: x is ±a / c and y is ±b / d
+crossed : (x a c p d q : ℕ) → x * c ≡ a * p → a * d * (p * q) ≡ x * q * (c * d)
+crossed x a c p d q e = mul-mul-mul-comm a d p q ∙ ap (λ (z : ℕ). z * (d * q)) (sym e) ∙ ap (λ (z : ℕ). x * c * z) (mul-comm d q) ∙ sym (mul-mul-mul-comm x q c d)
+
 at-most-value : (s t : Bool) (x y p q a b c d : ℕ) → 0 < c → 0 < d → x * c ≡ a * p → y * d ≡ b * q → AtMost s (a * d) t (b * c) → AtMost s (x * q) t (y * p)
-at-most-value false false x y p q a b c d C D e f h = transfer x y p q a b c d C D e f h
-at-most-value false true x y p q a b c d C D e f h =
-    both (x * q) (y * p)
-    (le-trans (transfer x 0 p q a 0 c d C D e (zero-mul d ∙ sym (zero-mul q)) (le-trans (first (a * d) (b * c) h) (le-of-eq (sym (zero-mul c))))) (le-of-eq (zero-mul p)))
-    (le-trans (transfer y 0 q p b 0 d c D C f (zero-mul c ∙ sym (zero-mul p)) (le-trans (second (a * d) (b * c) h) (le-of-eq (sym (zero-mul d))))) (le-of-eq (zero-mul q)))
-  where
-    first : (m n : ℕ) → m + n ≤ 0 → m ≤ 0
-    first m n h = omega arith
-
-    second : (m n : ℕ) → m + n ≤ 0 → n ≤ 0
-    second m n h = omega arith
-
-    both : (m n : ℕ) → m ≤ 0 → n ≤ 0 → m + n ≤ 0
-    both m n g h = omega arith
-at-most-value true false x y p q a b c d C D e f h = tt
-at-most-value true true x y p q a b c d C D e f h = transfer y x q p b a d c D C f e h
+at-most-value s t x y p q a b c d C D e f h =
+    at-most-back s t (x * q) (y * p) (c * d) (mul-pos C D)
+    (subst (λ (z : ℕ). AtMost s z t (y * p * (c * d))) (crossed x a c p d q e)
+    (subst (λ (z : ℕ). AtMost s (a * d * (p * q)) t z) (ap (λ (z : ℕ). b * c * z) (mul-comm p q) ∙ crossed y b d q c p f ∙ ap (λ (z : ℕ). y * p * z) (mul-comm d c))
+    (at-most-times s t (a * d) (b * c) (p * q) h)))
 
 pub le-of : (x y : Float) (s t : Bool) (a c b d : ℕ) → 0 < c → 0 < d → HasValue x s a c → HasValue y t b d → AtMost s (a * d) t (b * c) → T (le x y)
 unfolding le lt eq
@@ -155,20 +191,70 @@ of-le (fin u m e) (fin z n g) s t a c b d C D v w h =
 pub whole-value-of : (s : Bool) (n : ℕ) → HasValue (fin s n (pos 0)) s n 1
 whole-value-of s n = (refl, mul-one (n * 1))
 
--- ---- upside down
-turned : (s t : Bool) (a b : ℕ) → AtMost s a t b → AtMost (not t) b (not s) a
-turned false false a b h = h
-turned false true a b h = swap a b h
-turned true false a b h = tt
-turned true true a b h = h
+-- ---- an order
+pub finite-value : (x : Float) (s : Bool) (a c : ℕ) → HasValue x s a c → T (finite x)
+finite-value nan s a c v = v
+finite-value (inf t) s a c v = v
+finite-value (fin t m e) s a c v = tt
 
-pub le-neg : (x y : Float) → T (finite x) → T (finite y) → T (le x y) → T (le (neg y) (neg x))
+pub le-same : (x : Float) → T (finite x) → T (le x x)
+unfolding le lt eq
+le-same nan p = absurd p
+le-same (inf s) p = absurd p
+le-same (fin s m e) p = from-at-most s s (m * up e * down e) (m * up e * down e) (at-most-same s (m * up e * down e))
+
+-- x / p, y / q and z / r in this order
+at-most-through : (s t u : Bool) (x y z p q r : ℕ) → 0 < q → AtMost s (x * q) t (y * p) → AtMost t (y * r) u (z * q) → AtMost s (x * r) u (z * p)
+at-most-through s t u x y z p q r Q h k =
+    at-most-back s u (x * r) (z * p) q Q
+    (subst (λ (w : ℕ). AtMost s w u (z * p * q)) (mul-right-comm x q r)
+    (subst (λ (w : ℕ). AtMost s (x * q * r) u w) (mul-right-comm z q p)
+    (at-most-trans s t u (x * q * r) (y * p * r) (z * q * p) (at-most-times s t (x * q) (y * p) r h)
+    (subst (λ (w : ℕ). AtMost t w u (z * q * p)) (mul-right-comm y r p) (at-most-times t u (y * r) (z * q) p k)))))
+
+pub le-through : (x y z : Float) → T (le x y) → T (le y z) → T (le x z)
+unfolding le lt eq
+le-through nan y z h k = absurd h
+le-through (inf s) nan z h k = absurd h
+le-through (fin s m e) nan z h k = absurd h
+le-through (inf false) (inf true) z h k = absurd h
+le-through (inf false) (inf false) z h k = k
+le-through (inf false) (fin t n d) z h k = absurd h
+le-through (inf true) (inf t) nan h k = absurd k
+le-through (inf true) (inf t) (inf true) h k = tt
+le-through (inf true) (inf t) (inf false) h k = tt
+le-through (inf true) (inf t) (fin u l g) h k = tt
+le-through (inf true) (fin t n d) nan h k = absurd k
+le-through (inf true) (fin t n d) (inf true) h k = tt
+le-through (inf true) (fin t n d) (inf false) h k = tt
+le-through (inf true) (fin t n d) (fin u l g) h k = tt
+le-through (fin s m e) (inf true) z h k = absurd h
+le-through (fin s m e) (inf false) nan h k = absurd k
+le-through (fin s m e) (inf false) (inf true) h k = absurd k
+le-through (fin s m e) (inf false) (inf false) h k = tt
+le-through (fin s m e) (inf false) (fin u l g) h k = absurd k
+le-through (fin s m e) (fin t n d) nan h k = absurd k
+le-through (fin s m e) (fin t n d) (inf true) h k = absurd k
+le-through (fin s m e) (fin t n d) (inf false) h k = tt
+le-through (fin s m e) (fin t n d) (fin u l g) h k =
+    from-at-most s u (m * up e * down g) (l * up g * down e)
+    (at-most-through s t u (m * up e) (n * up d) (l * up g) (down e) (down d) (down g) (down-pos d) (at-most s t (m * up e * down d) (n * up d * down e) h) (at-most t u (n * up d * down g) (l * up g * down d) k))
+
+-- ---- upside down
+pub le-neg : (x y : Float) → T (le x y) → T (le (neg y) (neg x))
 unfolding le lt eq neg
-le-neg nan y p q h = absurd p
-le-neg (inf s) y p q h = absurd p
-le-neg (fin s m e) nan p q h = absurd q
-le-neg (fin s m e) (inf t) p q h = absurd q
-le-neg (fin s m e) (fin t n d) p q h = let a = m * up e * down d in let b = n * up d * down e in from-at-most (not t) (not s) b a (turned s t a b (at-most s t a b h))
+le-neg nan y h = absurd h
+le-neg (inf s) nan h = absurd h
+le-neg (inf true) (inf true) h = tt
+le-neg (inf true) (inf false) h = tt
+le-neg (inf false) (inf true) h = absurd h
+le-neg (inf false) (inf false) h = tt
+le-neg (inf true) (fin t n d) h = tt
+le-neg (inf false) (fin t n d) h = absurd h
+le-neg (fin s m e) nan h = absurd h
+le-neg (fin s m e) (inf true) h = absurd h
+le-neg (fin s m e) (inf false) h = tt
+le-neg (fin s m e) (fin t n d) h = let a = m * up e * down d in let b = n * up d * down e in from-at-most (not t) (not s) b a (turned s t a b (at-most s t a b h))
 
 pub neg-neg : (x : Float) → neg (neg x) ≡ x
 unfolding neg
@@ -177,3 +263,9 @@ neg-neg (inf true) = refl
 neg-neg (inf false) = refl
 neg-neg (fin true m e) = refl
 neg-neg (fin false m e) = refl
+
+pub neg-finite : (x : Float) → T (finite x) → T (finite (neg x))
+unfolding neg
+neg-finite nan p = p
+neg-finite (inf s) p = p
+neg-finite (fin s m e) p = tt

@@ -10,4 +10,5 @@ pub mod Cuts
 pub mod Nearest
 pub mod NextWhole
 pub mod Trust
+pub mod Monotone
 pub mod Ints

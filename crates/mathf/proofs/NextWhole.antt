@@ -17,7 +17,7 @@ use Rattle.mathf.specs.Whole.{floorOf, ceilOf, wholeOf, cutDown, takenUp
 use Rattle.mathf.specs.Trust.{LastBefore}
 use Rattle.mathf.proofs.Floors.{fit-parts, whole-value, ceil-is}
 use Rattle.mathf.proofs.Bounds.{cut-le, taken-le}
-use Rattle.mathf.proofs.Compared.{AtMost, le-of, of-le, whole-value-of, le-neg, neg-neg}
+use Rattle.mathf.proofs.Compared.{AtMost, left-zero, right-zero, le-of, of-le, whole-value-of, le-neg, neg-neg, neg-finite}
 
 -- ---- the whole numbers next to an f32 are f32
 few : (s : Bool) (m : ℕ) (e : ℤ) → T (fits binary32 (fin s m e)) → m ≤ 2 ^ 24
@@ -57,14 +57,9 @@ last-taken true n a d p h = ones n (takenUp a d) (taken-le a d n p (le-trans (le
     ones : (n q : ℕ) → q ≤ n → q * 1 ≤ n * 1
     ones n q h = omega arith
 last-taken false n a d p h =
-    none n (takenUp a d) (le-of-mul-le-mul-right (le-trans (first (n * d) a h) (le-of-eq (sym (zero-mul d)))) p) (taken-le a d 0 p (le-trans (second (n * d) a h) (le-of-eq (sym (zero-mul d)))))
+    none n (takenUp a d) (le-of-mul-le-mul-right (le-trans (left-zero (n * d) (a * 1) h) (le-of-eq (sym (zero-mul d)))) p)
+    (taken-le a d 0 p (le-trans (le-of-eq (sym (mul-one a))) (le-trans (right-zero (n * d) (a * 1) h) (le-of-eq (sym (zero-mul d))))))
   where
-    first : (x a : ℕ) → x + a * 1 ≤ 0 → x ≤ 0
-    first x a h = omega arith
-
-    second : (x a : ℕ) → x + a * 1 ≤ 0 → a ≤ 0
-    second x a h = omega arith
-
     none : (n q : ℕ) → n ≤ 0 → q ≤ 0 → n * 1 + q * 1 ≤ 0
     none n q g h = omega arith
 
@@ -102,36 +97,21 @@ floor-last (fin true m e) t p =
     }
 
 -- ---- ceil: the floor of -x, upside down
-finite-value : (r : Float) (s : Bool) (a c : ℕ) → HasValue r s a c → T (finite r)
-finite-value nan s a c v = v
-finite-value (inf t) s a c v = v
-finite-value (fin t m e) s a c v = tt
-
 neg-value : (r : Float) (s : Bool) (a c : ℕ) → HasValue r s a c → HasValue (neg r) (not s) a c
 unfolding neg
 neg-value nan s a c v = v
 neg-value (inf t) s a c v = v
 neg-value (fin t m e) s a c v = (ap not (v .0), v .1)
 
-neg-finite : (x : Float) → T (finite x) → T (finite (neg x))
+upside-down : (x r : Float) → LastBefore (λ a b. a ≤ᶠ b) (neg x) r → LastBefore (λ a b. b ≤ᶠ a) x (neg r)
 unfolding neg
-neg-finite nan p = p
-neg-finite (inf s) p = p
-neg-finite (fin s m e) p = tt
-
-upside-down : (x r : Float) → T (finite x) → LastBefore (λ a b. a ≤ᶠ b) (neg x) r → LastBefore (λ a b. b ≤ᶠ a) x (neg r)
-unfolding neg
-upside-down x r p l =
-    let f = finite-value r (l .sign) (l .size) 1 (l .whole) in
-    record {
-      sign = not (l .sign);
-      size = l .size;
-      whole = neg-value r (l .sign) (l .size) 1 (l .whole);
-      itself = subst (λ (z : Float). T (le z (neg r))) (neg-neg x) (le-neg r (neg x) f (neg-finite x p) (l .itself));
-      last = λ s n h.
-          subst (λ (z : Float). T (le (neg r) z)) (neg-neg (fin s n (pos 0)))
-          (le-neg (fin (not s) n (pos 0)) r tt f (l .last (not s) n (le-neg x (fin s n (pos 0)) p tt h)));
-    }
+upside-down x r l = record {
+  sign = not (l .sign);
+  size = l .size;
+  whole = neg-value r (l .sign) (l .size) 1 (l .whole);
+  itself = subst (λ (z : Float). T (le z (neg r))) (neg-neg x) (le-neg r (neg x) (l .itself));
+  last = λ s n h. subst (λ (z : Float). T (le (neg r) z)) (neg-neg (fin s n (pos 0))) (le-neg (fin (not s) n (pos 0)) r (l .last (not s) n (le-neg x (fin s n (pos 0)) h)));
+}
 
 pub ceil-last : (x : Float) → T (fits binary32 x) → T (finite x) → LastBefore (λ a b. b ≤ᶠ a) x (ceilOf x)
-ceil-last x t p = subst (LastBefore (λ a b. b ≤ᶠ a) x) (ceil-is x) (upside-down x (floorOf (neg x)) p (floor-last (neg x) (neg-fits binary32 x t) (neg-finite x p)))
+ceil-last x t p = subst (LastBefore (λ a b. b ≤ᶠ a) x) (ceil-is x) (upside-down x (floorOf (neg x)) (floor-last (neg x) (neg-fits binary32 x t) (neg-finite x p)))
