@@ -1,5 +1,6 @@
 -- Drawing under a clip is drawing in an area.
 --     in-area       a box holds the pixels that its area holds
+--     in-columns    signed ends of a range of columns, as natural ones
 --     in-clip       a pixel is in what the clip lets through where it is in the reach and in the clip
 --     drawn-clip    a shape drawn under a clip is drawn in what the clip lets through
 --     clip-fits     what a clip that is empty or inside the canvas lets through lies within px
@@ -11,20 +12,26 @@ use mathlib.Core.Logic.{_⊎_, ⊎-elim}
 use Prim.Native.Nat.{ℕ, _*_, _/_, _%_, _≤_, _<_}
 use native.Mathlib.Nat.{mul-le-mul-right, zero-mul}
 use native.Mathlib.Omega.{arith}
-use lib.IntN.{pos}
+use lib.IntN.{ℤ, pos}
 use Rattle.geom.specs.declared.IRect.{IRect}
 use Rattle.geom.specs.Box.{boxOf, inside, meet, empty}
 use Rattle.geom.proofs.Bools.{split}
-use Rattle.geom.proofs.Int.{orderZ}
+use Rattle.geom.specs.Int.{up}
+use Rattle.geom.proofs.Int.{orderZ, le-up, lt-up}
 use Rattle.geom.proofs.Boxes.{in-pixel, in-meet, in-empty, Within, meet-right, cut-in, holds-full, within-nat}
 use Rattle.draw.specs.declared.Area.{Area}
-use Rattle.draw.specs.Draw.{onto, meets, drawn}
+use Rattle.draw.specs.Draw.{meets, drawn, inColumns}
 use Rattle.draw.specs.Areas.{within, area, inArea, areaOf, drawnIn, clipTo, AreaFits}
 use Rattle.draw.proofs.Rows.{within-none}
 
 pub in-area : (b : IRect) (x y : ℕ) → inside b (pos x) (pos y) ≡ inArea (areaOf b) x y
 unfolding within
 in-area b x y = in-pixel b x y
+
+-- signed ends of a range of columns are as good as natural ones
+pub in-columns : (a b : ℤ) (x : ℕ) → inColumns a b x ≡ within (up a) (up b) x
+unfolding inColumns within
+in-columns a b x = rw (le-up a x, lt-up x b)
 
 -- ---- what a clip lets through
 

@@ -2,11 +2,12 @@
 use mathlib.Core.Bool.{Bool, true, cond, _&&_}
 use Prim.Native.Nat.{ℕ}
 use lib.Ieee.{Float}
-use Rattle.mathf.specs.F32.{_+ᶠ_, _-ᶠ_, _*ᶠ_, _/ᶠ_, _<ᶠ_, f0, f½, f255, f1e-3}
-use Rattle.mathf.specs.Order.{maxOf, fabsOf, saturateOf}
+use Rattle.mathf.specs.F32.{_+ᶠ_, _-ᶠ_, _*ᶠ_, _/ᶠ_, _<ᶠ_, ofℕᶠ, f0, f½, f255, f1e-3}
+use Rattle.mathf.specs.Order.{minOf, maxOf, fabsOf, saturateOf}
 use Rattle.mathf.specs.Convert.{toU32}
 use Rattle.mathf.specs.Root.{sqrtOf}
 use Rattle.geom.specs.declared.Pt.{Pt}
+use Rattle.geom.specs.declared.Rect.{Rect}
 use Rattle.geom.specs.Plane.{floatOk, ptOk}
 use Rattle.color.specs.declared.Color.{Color}
 use Rattle.color.specs.Colours.{mixOf}
@@ -42,6 +43,14 @@ paintOk (Solid c) = true
 paintOk (VGrad y0 y1 c0 c1) = floatOk y0 && floatOk y1
 paintOk (Linear p0 p1 c0 c1) = ptOk p0 && ptOk p1
 paintOk (Radial c r c0 c1) = ptOk c && floatOk r
+
+-- the centre of column or row i, where a paint or a distance is sampled
+abbrev pub centreOf : ℕ → Float
+centreOf i = ofℕᶠ i +ᶠ f½
+
+-- the radius of a rectangle's corners: r, at most half of each side and at least 0
+unfoldable pub radiusOf : Rect → Float → Float
+radiusOf rect r = maxOf (minOf (minOf r (rect .w *ᶠ f½)) (rect .h *ᶠ f½)) f0
 
 -- `rrect_sd`: the signed distance of a point to a rounded rectangle, negative inside
 unfoldable pub cornerSd : Float → Float → Float → Float

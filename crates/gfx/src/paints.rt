@@ -1,12 +1,13 @@
 // Paints, coverage and distances: one f32 operation after another, in the order of gfx.rs.
 use color::Color;
 use geom::Pt;
+use geom::Rect;
 use geom::float_ok;
 ghost use mathlib.Core.Path.{_≡_};
 ghost use mathlib.Core.Bool.{_&&_};
 ghost use Rattle.geom.specs.Plane.{floatOk, ptOk};
 ghost use Rattle.mathf.specs.F32.{_<ᶠ_, f0};
-ghost use Rattle.gfx.specs.Paints.{alongDown, alongLine, alongRadius, paintAt, paintOk, cornerSd, rrectSd, cov8Of};
+ghost use Rattle.gfx.specs.Paints.{alongDown, alongLine, alongRadius, paintAt, paintOk, centreOf, radiusOf, cornerSd, rrectSd, cov8Of};
 
 // What a shape is filled with.
 pub enum Paint {
@@ -108,6 +109,20 @@ impl Paint {
             Paint::Radial { c, r, c0: _, c1: _ } => circle_ok(c, r),
         }
     }
+}
+
+// The centre of column or row i.
+pub fn centre(i: u16) -> f32
+    ensures { λ r. ⌜ r ≡ centreOf i ⌝ }
+{
+    i as f32 + 0.5
+}
+
+// The radius of a rectangle's corners: at most half of each side, at least 0.
+pub fn radius(rect: Rect, r: f32) -> f32
+    ensures { λ t. ⌜ t ≡ radiusOf rect r ⌝ }
+{
+    mathf::max(mathf::min(mathf::min(r, rect.w * 0.5), rect.h * 0.5), 0.0)
 }
 
 fn both_positive(a: f32, b: f32) -> bool
