@@ -3,6 +3,7 @@
 --     in-columns    signed ends of a range of columns, as natural ones
 --     in-clip       a pixel is in what the clip lets through where it is in the reach and in the clip
 --     drawn-clip    a shape drawn under a clip is drawn in what the clip lets through
+--     shape-at      one pixel of what a shape leaves
 --     clip-fits     what a clip that is empty or inside the canvas lets through lies within px
 -- Assumes nothing.
 use mathlib.Core.Path.{_≡_, refl, sym, ap, _∙_}
@@ -10,6 +11,7 @@ use mathlib.Core.Bool.{Bool, true, false, cond, _&&_}
 use mathlib.Core.List.{List}
 use mathlib.Core.Logic.{_⊎_, ⊎-elim}
 use Prim.Native.Nat.{ℕ, _*_, _/_, _%_, _≤_, _<_}
+use lib.ListN.{length, getD}
 use native.Mathlib.Nat.{mul-le-mul-right, zero-mul}
 use native.Mathlib.Omega.{arith}
 use lib.IntN.{ℤ, pos}
@@ -22,6 +24,7 @@ use Rattle.geom.proofs.Boxes.{in-pixel, in-meet, in-empty, Within, meet-right, 
 use Rattle.draw.specs.declared.Area.{Area}
 use Rattle.draw.specs.Draw.{meets, drawn, inColumns}
 use Rattle.draw.specs.Areas.{within, area, inArea, areaOf, drawnIn, clipTo, AreaFits}
+use Rattle.draw.proofs.Onto.{length-onto, getD-onto}
 use Rattle.draw.proofs.Rows.{within-none}
 
 pub in-area : (b : IRect) (x y : ℕ) → inside b (pos x) (pos y) ≡ inArea (areaOf b) x y
@@ -91,3 +94,14 @@ clip-fits pitch w h n reach clip ok p q r s =
           wide = omega arith;
           high = omega arith;
         }
+
+-- ---- one pixel of what a shape leaves: it depends on the old value, the column and the row, and on the clip by whether it holds the pixel alone
+pub length-shape : (pitch : ℕ) (clip reach : IRect) (ink : ℕ → ℕ → ℕ → ℕ) (px : List ℕ) → length (drawn pitch clip reach ink px) ≡ length px
+unfolding drawn
+length-shape pitch clip reach ink px = length-onto (λ i. meets clip reach (i % pitch) (i / pitch)) (λ i p. ink (i % pitch) (i / pitch) p) px
+
+pub shape-at : (pitch : ℕ) (clip reach : IRect) (ink : ℕ → ℕ → ℕ → ℕ) (px : List ℕ) (k : ℕ) → k < length px
+    → getD (drawn pitch clip reach ink px) k 0
+    ≡ cond (meets clip reach (k % pitch) (k / pitch)) (ink (k % pitch) (k / pitch) (getD px k 0)) (getD px k 0)
+unfolding drawn
+shape-at pitch clip reach ink px k h = getD-onto (λ i. meets clip reach (i % pitch) (i / pitch)) (λ i p. ink (i % pitch) (i / pitch) p) px k h
