@@ -8,9 +8,10 @@ use Rattle.mathf.specs.Convert.{toU32}
 use Rattle.mathf.specs.Root.{sqrtOf}
 use Rattle.geom.specs.declared.Pt.{Pt}
 use Rattle.geom.specs.declared.Rect.{Rect}
-use Rattle.geom.specs.Plane.{floatOk, ptOk}
+use Rattle.geom.specs.Plane.{rightOf, bottomOf, cxOf, cyOf, floatOk, ptOk}
 use Rattle.color.specs.declared.Color.{Color}
 use Rattle.color.specs.Colours.{mixOf}
+use Rattle.gfx.specs.declared.paints.Rounded.{Rounded}
 use Rattle.gfx.specs.declared.paints.Paint.{Paint}
 use Rattle.gfx.specs.declared.paints.Paint.the-variants.{Solid, VGrad, Linear, Radial}
 
@@ -59,6 +60,24 @@ cornerSd qx qy r =
 
 unfoldable pub rrectSd : Float → Float → Float → Float → Float → Float → Float → Float
 rrectSd px py cx cy hw hh r = cornerSd (fabsOf (px -ᶠ cx) -ᶠ (hw -ᶠ r)) (fabsOf (py -ᶠ cy) -ᶠ (hh -ᶠ r)) r
+
+-- a rectangle with rounded corners, as the distance and the rows of a shape ask for it
+abbrev pub roundedOf : Rect → Float → Rounded
+roundedOf rect r =
+    record {
+      cx = cxOf rect;
+      cy = cyOf rect;
+      hw = rect .w *ᶠ f½;
+      hh = rect .h *ᶠ f½;
+      r = radiusOf rect r;
+      left = rect .x;
+      right = rightOf rect;
+      top = rect .y;
+      bottom = bottomOf rect;
+    }
+
+abbrev pub roundedSd : Rounded → Float → Float → Float
+roundedSd s x y = rrectSd x y (s .cx) (s .cy) (s .hw) (s .hh) (s .r)
 
 -- `cov8`: the coverage, 0 to 255, of a pixel whose centre lies at the signed distance d of an edge
 unfoldable pub cov8Of : Float → ℕ

@@ -10,6 +10,7 @@ use crate::checks::new_number;
 use crate::checks::raise;
 use crate::checks::side_ok;
 pub use crate::paints::Paint;
+pub use crate::paints::Rounded;
 pub use crate::paints::centre;
 pub use crate::paints::cov8;
 pub use crate::paints::radius;
