@@ -13,6 +13,9 @@ pub over-none : (p : ℕ) (c : Color) → over p c 0 ≡ p
 unfolding blended
 over-none p c = refl
 
+pub over-idle : (p : ℕ) (c : Color) (a : ℕ) → a ≡ 0 → p ≡ over p c a
+over-idle p c a e = sym (ap (over p c) e ∙ over-none p c)
+
 -- an alpha of 255 or more is the plain colour
 pub over-full : (p : ℕ) (c : Color) (a : ℕ) → 255 ≤ a → over p c a ≡ pixOf c
 unfolding blended

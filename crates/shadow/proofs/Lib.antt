@@ -1,0 +1,3 @@
+-- The laws of a shadow that belong to no one function.
+pub mod Levels
+pub mod Parts

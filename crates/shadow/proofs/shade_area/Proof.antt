@@ -1,0 +1,24 @@
+-- `shadow::shade_area` meets its contract. Assumes nothing.
+use mathlib.Core.Path.{_≡_, refl, _∙_}
+use borrow.Author.Needs.{needs}
+use Rattle.shadow.proofs.shade_area.Statement.{statement}
+use Rattle.shadow.proofs.shade_area.Tie as tie
+
+falloff-requires : tie.Need-falloff-requires
+falloff-requires c κs = search needs
+
+of-requires : tie.Need-of-requires
+of-requires c κs = search needs
+
+shade-box-requires : tie.Need-shade-box-requires
+shade-box-requires c κs = (c .before .before .before .before .before .pre, record { levels = c .before .before .before .falloff .ensures; scaled = refl })
+
+same-length : tie.Need-same-length
+same-length c = search needs
+
+returns : tie.Need-returns
+returns c = rw (← (c .before .before .before .before .before .of .ensures)) (c .before .before .shade-box .ensures)
+
+pub shade-area-spec : {M : Type 1} → statement M
+shade-area-spec =
+    tie.close (tie.spec falloff-requires of-requires shade-box-requires same-length returns)

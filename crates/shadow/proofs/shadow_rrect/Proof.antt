@@ -1,0 +1,80 @@
+-- `shadow::shadow_rrect` meets its contract. Assumes nothing.
+use mathlib.Core.Path.{_≡_, _∙_, sym}
+use denote.Ref.{now}
+use lib.ListN.{length}
+use Rattle.geom.specs.Int.{up}
+use Rattle.geom.proofs.Signed.{kept}
+use Rattle.draw.proofs.Clips.{drawn-clip}
+use Rattle.gfx.specs.Calls.{shapeNumber}
+use Rattle.gfx.proofs.Answers.{refused-call, accepted-call}
+use Rattle.gfx.proofs.Sizes.{shape-open}
+use Rattle.gfx.proofs.Fits.{canvas-fits}
+use Rattle.shadow.specs.Shadow.{shadowOk}
+use borrow.Author.Needs.{needs}
+use Rattle.shadow.proofs.shadow_rrect.Statement.{statement}
+use Rattle.shadow.proofs.shadow_rrect.Tie as tie
+
+number : (c : tie.After-shape-number) →
+    c .shape-number .result
+    ≡ shapeNumber (c .before .before .before .before .args .canvas) (length (now (c .before .before .before .before .args .px)))
+    (shadowOk (c .before .before .before .before .args .rect) (c .before .before .before .before .args .r) (c .before .before .before .before .args .blur))
+number c = rw (c .before .floats-ok .ensures, c .before .before .in-range .ensures) at (c .shape-number .ensures)
+
+wide : (c : tie.After-nat-of) → c .nat-of .result ≡ up (c .before .before .before .before .before .before .before .args .canvas .w)
+wide c =
+    let w = c .before .before .before .before .before .before .before .args .canvas .w in
+    simp (kept w (c .before .struct-told .given .0 .1)) at (c .nat-of .ensures)
+
+in-range-requires : tie.Need-in-range-requires
+in-range-requires c κs = search needs
+
+floats-ok-requires : tie.Need-floats-ok-requires
+floats-ok-requires c κs = search needs
+
+shape-number-requires : tie.Need-shape-number-requires
+shape-number-requires c κs = search needs
+
+returns : tie.Need-returns
+returns c = refused-call (number (c .before)) (c .if1 .taken)
+
+nat-of-requires : tie.Need-nat-of-requires
+nat-of-requires c κs = search needs
+
+shadow-reach-requires : tie.Need-shadow-reach-requires
+shadow-reach-requires c κs = search needs
+
+clipped-requires : tie.Need-clipped-requires
+clipped-requires c κs = search needs
+
+shade-area-requires : tie.Need-shade-area-requires
+shade-area-requires c κs =
+    let n = c .before .before .before .before in
+    let d = n .before .before in
+    rw (wide n, c .before .clipped .ensures) (canvas-fits _ _ _ (shape-open _ _ _ (sym (number (d .before)) ∙ d .if1 .left)))
+
+same-length : tie.Need-same-length
+same-length c = search needs
+
+returns-2 : tie.Need-returns-2
+returns-2 c =
+    let a = c .before .before in
+    let k = a .before .before in
+    let n = k .before .before .before in
+    let d = n .before .before in
+    let e = rw (wide n, k .clipped .ensures, k .before .shadow-reach .ensures) at (a .shade-area .ensures) in
+    rw (e ∙ sym (drawn-clip _ _ _ _ _)) (accepted-call (number (d .before)) (d .if1 .left))
+
+pub shadow-rrect-spec : {M : Type 1} → statement M
+shadow-rrect-spec =
+    tie.close
+    (tie.spec
+    in-range-requires
+    floats-ok-requires
+    shape-number-requires
+    returns
+    nat-of-requires
+    shadow-reach-requires
+    clipped-requires
+    shade-area-requires
+    same-length
+    returns-2)

@@ -1,0 +1,41 @@
+-- What the loops of a row do: the alpha read from the table of levels, and the ink of each part of a row.
+use mathlib.Core.Bool.{Bool, cond}
+use mathlib.Core.Path.{_≡_}
+use mathlib.Core.List.{List}
+use Prim.Native.Nat.{ℕ}
+use lib.ListN.{getD}
+use lib.Ieee.{Float}
+use Rattle.mathf.specs.F32.{_*ᶠ_, _/ᶠ_, _≤ᶠ_, f0, f2, f96}
+use Rattle.mathf.specs.Convert.{toUsize}
+use Rattle.color.specs.declared.Color.{Color}
+use Rattle.color.specs.Inks.{over}
+use Rattle.gfx.specs.declared.paints.Rounded.{Rounded}
+use Rattle.gfx.specs.Paints.{centreOf}
+use Rattle.shadow.specs.declared.Shade.{Shade}
+use Rattle.shadow.specs.Shadow.{levelOf, table, straightSide, cornerSide, straightAlpha, cornerAlpha}
+
+-- the alpha at t levels out, from the table
+unfoldable pub tableAlpha : List ℕ → Float → ℕ
+tableAlpha lut t = cond (t ≤ᶠ f0) (getD lut 0 0) (cond (f96 ≤ᶠ t) 0 (getD lut (toUsize t) 0))
+
+-- one alpha for a whole part; and beside the middle, in a straight row and in any other
+unfoldable pub flatInk : Color → ℕ → ℕ → ℕ → ℕ → ℕ
+flatInk c v x y p = over p c v
+
+unfoldable pub straightInk : Rounded → Float → Color → Float → ℕ → ℕ → ℕ → ℕ
+straightInk s blur c sdy x y p = over p c (straightSide s (c .a) blur sdy (centreOf x))
+
+unfoldable pub cornerInk : Rounded → Float → Color → Float → ℕ → ℕ → ℕ → ℕ
+cornerInk s blur c qy x y p = over p c (cornerSide s (c .a) blur qy (centreOf x))
+
+-- the table is the colour's, and the scale the blur's
+pub record Table (h : Shade) (lut : List ℕ) : Type 0 where
+  pub levels : lut ≡ table (levelOf (h .c .a)) 97
+  pub scaled : h .scale ≡ f96 /ᶠ (f2 *ᶠ h .blur)
+
+-- a straight row, and any other
+unfoldable pub straightRowInk : Shade → Bool → Float → ℕ → ℕ → ℕ → ℕ
+straightRowInk h skip sdy x y p = over p (h .c) (straightAlpha (h .s) (h .c .a) (h .blur) skip sdy x)
+
+unfoldable pub cornerRowInk : Shade → Float → ℕ → ℕ → ℕ → ℕ
+cornerRowInk h qy x y p = over p (h .c) (cornerAlpha (h .s) (h .c .a) (h .blur) qy x)

@@ -1,0 +1,358 @@
+// The soft shadow of a rounded rectangle.
+use color::Color;
+use color::over;
+use draw::Area;
+use draw::between;
+use draw::clipped;
+use geom::IRect;
+use geom::Rect;
+use geom::float_ok;
+use geom::nat_of;
+use gfx::Canvas;
+use gfx::Done;
+use gfx::Rounded;
+use gfx::centre;
+ghost use mathlib.Core.Path.{_≡_};
+ghost use mathlib.Core.Bool.{_&&_};
+ghost use Prim.Native.Nat.{_+_, _≤_};
+ghost use lib.ListN.{length};
+ghost use Rattle.mathf.specs.F32.{_/ᶠ_, _*ᶠ_, f2, f96};
+ghost use Rattle.geom.specs.Int.{up};
+ghost use Rattle.geom.specs.Plane.{floatOk};
+ghost use Rattle.draw.specs.Draw.{drawn};
+ghost use Rattle.draw.specs.Areas.{drawnIn, area, RowFits, AreaFits};
+ghost use Rattle.gfx.specs.Calls.{Called, shapeNumber};
+ghost use Rattle.shadow.specs.Shadow.{shadowOk, shadowReach, levelOf, table, stepsOut, alphaOf, rowDy, rowQy, straightFrom, straightUpto, straightMiddle, straightSide, cornerFrom, cornerUpto, cornerSide, shadeInk, shadowInk};
+ghost use Rattle.shadow.specs.Spans.{Table, tableAlpha, flatInk, straightInk, cornerInk, straightRowInk, cornerRowInk};
+
+fn floats_ok(a: f32, b: f32) -> bool
+    ensures { λ r. ⌜ r ≡ (floatOk a && floatOk b) ⌝ }
+{
+    float_ok(a) & float_ok(b)
+}
+
+// The reach: nothing where the colour has no alpha or the blur is not above 0.
+fn shadow_reach(rect: Rect, blur: f32, c: Color) -> IRect
+    ensures { λ b. ⌜ b ≡ shadowReach rect blur c ⌝ }
+{
+    let a = c.a;
+    if a == 0 {
+        return IRect::new(0, 0, 0, 0);
+    }
+    if blur <= 0.0 {
+        return IRect::new(0, 0, 0, 0);
+    }
+    IRect::from_rect_outer(rect.inset(-blur))
+}
+
+// Level i of the falloff.
+fn level(i: u8, a: u8) -> u32
+    ensures { λ r. ⌜ r ≡ levelOf a i ⌝ }
+{
+    let t = i as f32 / 96.0;
+    let f = 1.0 - t * t * (3.0 - 2.0 * t);
+    mathf::to_u32(f * (a as f32) + 0.5)
+}
+
+// The 97 levels, filled once a call.
+fn falloff(a: u8) -> [u32; 97]
+    ensures { λ r. ⌜ r ≡ table (levelOf a) 97 ⌝ }
+{
+    let mut lut = [0u32; 97];
+    for i in 0..97 {
+        lut[i] = level(i as u8, a);
+    }
+    lut
+}
+
+// The alpha at t levels out.
+fn table_alpha(lut: &[u32; 97], t: f32) -> u32
+    ensures { λ r. ⌜ r ≡ tableAlpha (now (lut .entry)) t ⌝ }
+{
+    if t <= 0.0 {
+        return lut[0];
+    }
+    if t >= 96.0 {
+        return 0;
+    }
+    let i = mathf::to_usize(t);
+    lut[i]
+}
+
+// The alpha at a signed distance; `scale` is levels to a pixel.
+fn alpha_of(lut: &[u32; 97], a: u8, blur: f32, scale: f32, sd: f32) -> u32
+    requires { ⌜ (now lut ≡ table (levelOf a) 97) × (scale ≡ f96 /ᶠ (f2 *ᶠ blur)) ⌝ }
+    ensures { λ r. ⌜ r ≡ alphaOf a blur sd ⌝ }
+{
+    table_alpha(lut, (sd + blur) * scale)
+}
+
+// What every row of a shadow asks: its rectangle, the blur, the levels to a pixel, the colour.
+struct Shade {
+    s: Rounded,
+    blur: f32,
+    scale: f32,
+    c: Color,
+}
+
+// The alpha beside the middle of a straight row.
+fn straight_side(lut: &[u32; 97], h: Shade, sdy: f32, xc: f32) -> u32
+    requires { ⌜ Table h (now lut) ⌝ }
+    ensures { λ r. ⌜ r ≡ straightSide (h .s) (h .c .a) (h .blur) sdy xc ⌝ }
+{
+    let sdx = mathf::fabs(xc - h.s.cx) - h.s.hw;
+    if sdx > sdy {
+        alpha_of(lut, h.c.a, h.blur, h.scale, sdx)
+    } else {
+        alpha_of(lut, h.c.a, h.blur, h.scale, sdy)
+    }
+}
+
+// The alpha beside the middle of any other row.
+fn corner_side(lut: &[u32; 97], h: Shade, qy: f32, xc: f32) -> u32
+    requires { ⌜ Table h (now lut) ⌝ }
+    ensures { λ r. ⌜ r ≡ cornerSide (h .s) (h .c .a) (h .blur) qy xc ⌝ }
+{
+    let qx = mathf::fabs(xc - h.s.cx) - (h.s.hw - h.s.r);
+    if qx > 0.0 {
+        alpha_of(
+            lut,
+            h.c.a,
+            h.blur,
+            h.scale,
+            mathf::sqrt(qx * qx + qy * qy) - h.s.r,
+        )
+    } else {
+        alpha_of(lut, h.c.a, h.blur, h.scale, qy - h.s.r)
+    }
+}
+
+// The alpha of the middle of a straight row: with `skip` none where it is full.
+fn straight_middle(lut: &[u32; 97], h: Shade, skip: bool, sdy: f32) -> u32
+    requires { ⌜ Table h (now lut) ⌝ }
+    ensures { λ r. ⌜ r ≡ straightMiddle (h .c .a) (h .blur) skip sdy ⌝ }
+{
+    let v = alpha_of(lut, h.c.a, h.blur, h.scale, sdy);
+    let full = lut[0] <= v;
+    if skip & full { 0 } else { v }
+}
+
+// A part of row y at one alpha.
+fn flat_span(px: &mut [u32], w: usize, y: usize, x0: usize, x1: usize, c: Color, v: u32)
+    requires { ⌜ RowFits w y x0 x1 (length (now px)) ⌝ }
+    ensures { λ _. ⌜ now (px .exit) ≡ drawnIn w (area x0 y x1 (y + 1)) (flatInk c v) (now (px .entry)) ⌝ }
+{
+    let row = y * w;
+    for x in x0..x1 {
+        let i = row + x;
+        px[i] = over(px[i], c, v);
+    }
+}
+
+// A part of row y beside the middle of a straight row.
+fn straight_span(
+    px: &mut [u32],
+    lut: &[u32; 97],
+    w: usize,
+    y: usize,
+    x0: usize,
+    x1: usize,
+    h: Shade,
+    sdy: f32,
+)
+    requires { ⌜ RowFits w y x0 x1 (length (now px)) ⌝ }
+    requires { ⌜ Table h (now lut) ⌝ }
+    ensures { λ _. ⌜ now (px .exit) ≡ drawnIn w (area x0 y x1 (y + 1)) (straightInk (h .s) (h .blur) (h .c) sdy) (now (px .entry)) ⌝ }
+{
+    let row = y * w;
+    for x in x0..x1 {
+        let v = straight_side(lut, h, sdy, centre(x as u16));
+        if v == 0 {
+            continue;
+        }
+        let i = row + x;
+        px[i] = over(px[i], h.c, v);
+    }
+}
+
+// A part of row y beside the middle of any other row.
+fn corner_span(
+    px: &mut [u32],
+    lut: &[u32; 97],
+    w: usize,
+    y: usize,
+    x0: usize,
+    x1: usize,
+    h: Shade,
+    qy: f32,
+)
+    requires { ⌜ RowFits w y x0 x1 (length (now px)) ⌝ }
+    requires { ⌜ Table h (now lut) ⌝ }
+    ensures { λ _. ⌜ now (px .exit) ≡ drawnIn w (area x0 y x1 (y + 1)) (cornerInk (h .s) (h .blur) (h .c) qy) (now (px .entry)) ⌝ }
+{
+    let row = y * w;
+    for x in x0..x1 {
+        let v = corner_side(lut, h, qy, centre(x as u16));
+        if v == 0 {
+            continue;
+        }
+        let i = row + x;
+        px[i] = over(px[i], h.c, v);
+    }
+}
+
+// The middle columns of a straight row, and of any other: the first, and the first past them.
+fn straight_from(s: Rounded, blur: f32) -> usize
+    ensures { λ x. ⌜ x ≡ up (straightFrom s blur) ⌝ }
+{
+    nat_of(mathf::to_i32(mathf::ceil(s.cx - s.hw + blur)))
+}
+
+fn straight_upto(s: Rounded, blur: f32) -> usize
+    ensures { λ x. ⌜ x ≡ up (straightUpto s blur) ⌝ }
+{
+    nat_of(mathf::to_i32(mathf::floor(s.cx + s.hw - blur)))
+}
+
+fn corner_from(s: Rounded) -> usize
+    ensures { λ x. ⌜ x ≡ up (cornerFrom s) ⌝ }
+{
+    nat_of(mathf::to_i32(mathf::ceil(s.cx - (s.hw - s.r))))
+}
+
+fn corner_upto(s: Rounded) -> usize
+    ensures { λ x. ⌜ x ≡ up (cornerUpto s) ⌝ }
+{
+    nat_of(mathf::to_i32(mathf::floor(s.cx + (s.hw - s.r))))
+}
+
+// Row y where it is straight.
+fn straight_row(
+    px: &mut [u32],
+    lut: &[u32; 97],
+    w: usize,
+    y: usize,
+    x0: usize,
+    x1: usize,
+    h: Shade,
+    skip: bool,
+    sdy: f32,
+)
+    requires { ⌜ RowFits w y x0 x1 (length (now px)) ⌝ }
+    requires { ⌜ Table h (now lut) ⌝ }
+    ensures { λ _. ⌜ now (px .exit) ≡ drawnIn w (area x0 y x1 (y + 1)) (straightRowInk h skip sdy) (now (px .entry)) ⌝ }
+{
+    let a = between(straight_from(h.s, h.blur), x0, x1);
+    let b = between(straight_upto(h.s, h.blur), a, x1);
+    let v = straight_middle(lut, h, skip, sdy);
+    straight_span(px, lut, w, y, x0, a, h, sdy);
+    flat_span(px, w, y, a, b, h.c, v);
+    straight_span(px, lut, w, y, b, x1, h, sdy);
+}
+
+// Row y where it is not.
+fn corner_row(
+    px: &mut [u32],
+    lut: &[u32; 97],
+    w: usize,
+    y: usize,
+    x0: usize,
+    x1: usize,
+    h: Shade,
+    qy: f32,
+)
+    requires { ⌜ RowFits w y x0 x1 (length (now px)) ⌝ }
+    requires { ⌜ Table h (now lut) ⌝ }
+    ensures { λ _. ⌜ now (px .exit) ≡ drawnIn w (area x0 y x1 (y + 1)) (cornerRowInk h qy) (now (px .entry)) ⌝ }
+{
+    let a = between(corner_from(h.s), x0, x1);
+    let b = between(corner_upto(h.s), a, x1);
+    let v = alpha_of(lut, h.c.a, h.blur, h.scale, qy - h.s.r);
+    corner_span(px, lut, w, y, x0, a, h, qy);
+    flat_span(px, w, y, a, b, h.c, v);
+    corner_span(px, lut, w, y, b, x1, h, qy);
+}
+
+// Row y.
+fn shade_row(
+    px: &mut [u32],
+    lut: &[u32; 97],
+    w: usize,
+    y: usize,
+    x0: usize,
+    x1: usize,
+    h: Shade,
+    skip: bool,
+)
+    requires { ⌜ RowFits w y x0 x1 (length (now px)) ⌝ }
+    requires { ⌜ Table h (now lut) ⌝ }
+    ensures { λ _. ⌜ now (px .exit) ≡ drawnIn w (area x0 y x1 (y + 1)) (shadeInk (h .s) (h .blur) (h .c) skip) (now (px .entry)) ⌝ }
+{
+    let dy = mathf::fabs(centre(y as u16) - h.s.cy);
+    let qy = dy - (h.s.hh - h.s.r);
+    if qy <= 0.0 {
+        straight_row(px, lut, w, y, x0, x1, h, skip, dy - h.s.hh);
+    } else {
+        corner_row(px, lut, w, y, x0, x1, h, qy);
+    }
+}
+
+// The rows of an area.
+fn shade_box(px: &mut [u32], lut: &[u32; 97], w: usize, b: Area, h: Shade, skip: bool)
+    requires { ⌜ AreaFits w b (length (now px)) ⌝ }
+    requires { ⌜ Table h (now lut) ⌝ }
+    ensures { λ _. ⌜ now (px .exit) ≡ drawnIn w b (shadeInk (h .s) (h .blur) (h .c) skip) (now (px .entry)) ⌝ }
+{
+    let x0 = b.x0;
+    let x1 = b.x1;
+    let y0 = b.y0;
+    let y1 = b.y1;
+    for y in y0..y1 {
+        shade_row(px, lut, w, y, x0, x1, h, skip);
+    }
+}
+
+// An area of the shadow of a rectangle.
+fn shade_area(
+    px: &mut [u32],
+    w: usize,
+    b: Area,
+    rect: Rect,
+    r: f32,
+    blur: f32,
+    c: Color,
+    skip: bool,
+)
+    requires { ⌜ AreaFits w b (length (now px)) ⌝ }
+    ensures { λ _. ⌜ now (px .exit) ≡ drawnIn w b (shadowInk rect r blur c skip) (now (px .entry)) ⌝ }
+{
+    let lut = falloff(c.a);
+    let scale = 96.0 / (2.0 * blur);
+    let s = Rounded::of(rect, r);
+    let h = Shade { s, blur, scale, c };
+    shade_box(px, &lut, w, b, h, skip);
+}
+
+// The soft shadow of a rounded rectangle; `blur` is half the width of its falloff.
+pub fn shadow_rrect(
+    canvas: Canvas,
+    px: &mut [u32],
+    rect: Rect,
+    r: f32,
+    blur: f32,
+    color: Color,
+    skip: bool,
+) -> Done
+    ensures { λ d. ⌜ Called (shapeNumber canvas (length (now (px .entry))) (shadowOk rect r blur)) canvas canvas (now (px .entry)) (drawn (up (canvas .w)) (canvas .clip) (shadowReach rect blur color) (shadowInk rect r blur color skip) (now (px .entry))) d (now (px .exit)) ⌝ }
+{
+    let ok = rect.in_range() & floats_ok(r, blur);
+    let number = canvas.shape_number(px.len(), ok);
+    if number != 0 {
+        return Done { number, canvas };
+    }
+    let w = nat_of(canvas.w);
+    let clip = canvas.clip;
+    let b = clipped(shadow_reach(rect, blur, color), clip);
+    shade_area(px, w, b, rect, r, blur, color, skip);
+    Done { number, canvas }
+}
