@@ -25,6 +25,7 @@ ghost use Rattle.geom.specs.Int.{up};
 ghost use Rattle.draw.specs.Draw.{drawn};
 ghost use Rattle.draw.specs.Areas.{area, drawnIn, clipTo, RowFits, AreaFits};
 ghost use Rattle.gfx.specs.declared.paints.Paint.the-variants.{Solid};
+ghost use Rattle.gfx.specs.Paints.{paintAt};
 ghost use Rattle.fill.specs.Fill.{fillReach, edgeRow, cornerRow, endsOf, coverOf, rimInk, middleInk, roundInk, fillInk};
 ghost use Rattle.fill.specs.Fill.{Filled, rrectFloats, rectFloats, circleFloats, circleRect};
 ghost use Rattle.fill.specs.Rows.{Cuts};
@@ -120,6 +121,16 @@ fn cover(rect: Rect, r: f32, xc: f32, yc: f32) -> u32
     cov8(rrect_sd(xc, yc, rect.cx(), rect.cy(), rect.w * 0.5, rect.h * 0.5, r))
 }
 
+// The colour of a paint at a point; a plain colour costs no call.
+fn colour_at(paint: Paint, xc: f32, yc: f32) -> Color
+    ensures { λ c. ⌜ c ≡ paintAt paint xc yc ⌝ }
+{
+    match paint {
+        Paint::Solid(c) => c,
+        _ => paint.at(xc, yc),
+    }
+}
+
 // Columns of row y by coverage.
 fn rim_span(
     px: &mut [u32],
@@ -142,7 +153,7 @@ fn rim_span(
         if cv == 0 {
             continue;
         }
-        let c = paint.at(xc, yc);
+        let c = colour_at(paint, xc, yc);
         let i = row + x;
         px[i] = blend_c(px[i], c, cv);
     }

@@ -52,8 +52,8 @@ loop-again c =
     row-pass (loop .before .before .before .pre) (loop .loop .inv) (turn .loop-test .taken)
     (rw (← (loop .before .centre .ensures), ← (cv .before .centre2 .ensures), ← (cv .cover .ensures), c .if1 .taken) (sym (overC-none _ _)))
 
-at-requires : tie.Need-at-requires Inv-loop μ-loop
-at-requires c κs = omega arith
+colour-at-requires : tie.Need-colour-at-requires Inv-loop μ-loop
+colour-at-requires c κs = omega arith
 
 add-i : tie.Need-add-i Inv-loop μ-loop
 add-i c = omega arith
@@ -87,7 +87,7 @@ loop-again-2 c =
     let turn = cv .before .before in
     let loop = turn .before in
     row-next (loop .before .before .before .pre) (loop .loop .inv) (turn .loop-test .taken)
-    (c .blend-c .ensures ∙ rw (at .at .ensures, cv .cover .ensures, cv .before .centre2 .ensures, loop .before .centre .ensures))
+    (c .blend-c .ensures ∙ rw (at .colour-at .ensures, cv .cover .ensures, cv .before .centre2 .ensures, loop .before .centre .ensures))
 
 same-length : tie.Need-same-length Inv-loop μ-loop
 same-length c = omega arith
@@ -111,7 +111,7 @@ rim-span-spec =
     add-x
     loop-less
     loop-again
-    at-requires
+    colour-at-requires
     add-i
     mul-blend-c
     slice-read-blend-c
