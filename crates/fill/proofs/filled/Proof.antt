@@ -1,0 +1,73 @@
+-- `fill::filled` meets its contract. Assumes nothing.
+use mathlib.Core.Path.{_≡_, sym, _∙_}
+use Rattle.geom.specs.Int.{up}
+use Rattle.geom.proofs.Signed.{kept}
+use Rattle.draw.specs.Areas.{clipTo}
+use Rattle.draw.proofs.Clips.{drawn-clip}
+use Rattle.gfx.proofs.Answers.{refused-call, accepted-call}
+use Rattle.gfx.proofs.Sizes.{shape-open}
+use Rattle.gfx.proofs.Fits.{canvas-fits}
+use Rattle.fill.specs.Fill.{fillReach}
+use borrow.Author.Needs.{needs}
+use Rattle.fill.proofs.filled.Statement.{statement}
+use Rattle.fill.proofs.filled.Tie as tie
+
+pitch : (c : tie.After-nat-of) → c .nat-of .result ≡ up (c .before .before .before .before .before .args .canvas .w)
+pitch c = c .nat-of .ensures ∙ rw (kept (c .before .before .before .before .before .args .canvas .w) (c .before .struct-told .given .0 .1))
+
+clip : (c : tie.After-clipped) → c .clipped .result
+    ≡ clipTo (fillReach (c .before .before .before .before .before .before .before .before .args .rect)) (c .before .before .before .before .before .before .before .before .args .canvas .clip)
+clip c = c .clipped .ensures ∙ rw (c .before .reach .ensures)
+
+shape-number-requires : tie.Need-shape-number-requires
+shape-number-requires c κs = search needs
+
+returns : tie.Need-returns
+returns c = refused-call (c .before .shape-number .ensures) (c .if1 .taken)
+
+nat-of-requires : tie.Need-nat-of-requires
+nat-of-requires c κs = search needs
+
+reach-requires : tie.Need-reach-requires
+reach-requires c κs = search needs
+
+clipped-requires : tie.Need-clipped-requires
+clipped-requires c κs = search needs
+
+radius-requires : tie.Need-radius-requires
+radius-requires c κs = search needs
+
+fill-box-requires : tie.Need-fill-box-requires
+fill-box-requires c κs =
+    let k = c .before .before in
+    let n = k .before .before .before in
+    let test = n .before .before in
+    let args = test .before .before .before .args in
+    rw (pitch n, clip k) (canvas-fits (args .canvas) _ (fillReach (args .rect)) (shape-open _ _ (args .ok) (sym (test .before .shape-number .ensures) ∙ test .if1 .left)))
+
+same-length : tie.Need-same-length
+same-length c = search needs
+
+returns-2 : tie.Need-returns-2
+returns-2 c =
+    let f = c .before .before in
+    let k = f .before .before .before in
+    let n = k .before .before .before in
+    let test = n .before .before in
+    let args = test .before .before .before .args in
+    rw (f .fill-box .ensures, pitch n, clip k, f .before .radius .ensures, ← (drawn-clip (up (args .canvas .w)) (args .canvas .clip) (fillReach (args .rect))))
+    (accepted-call (test .before .shape-number .ensures) (test .if1 .left))
+
+pub filled-spec : {M : Type 1} → statement M
+filled-spec =
+    tie.close
+    (tie.spec
+    shape-number-requires
+    returns
+    nat-of-requires
+    reach-requires
+    clipped-requires
+    radius-requires
+    fill-box-requires
+    same-length
+    returns-2)

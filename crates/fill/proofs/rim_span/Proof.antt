@@ -1,0 +1,125 @@
+-- `fill::rim_span` meets its contract. The columns before x are drawn. Assumes nothing.
+use mathlib.Core.Path.{sym, _∙_}
+use Prim.Native.Nat.{_-_}
+use native.Mathlib.Omega.{arith}
+use Rattle.color.proofs.Overs.{overC-none}
+use Rattle.draw.proofs.Loops.{InRow, row-start, row-next, row-pass, row-end}
+use Rattle.fill.specs.Fill.{rimInk}
+use Rattle.fill.proofs.rim_span.Statement.{statement}
+use Rattle.fill.proofs.rim_span.Tie as tie
+
+abbrev Inv-loop : tie.InvT-loop
+Inv-loop px₀ w y x0 x1 rect r paint row yc x₀ px x = InRow w (rimInk rect r paint) y x0 x1 px₀ px x
+
+abbrev μ-loop : tie.MeasureT-loop
+μ-loop px₀ w y x0 x1 rect r paint row yc x₀ px x = x1 - x
+
+mul-row : tie.Need-mul-row Inv-loop μ-loop
+mul-row c = omega arith
+
+cast-centre : tie.Need-cast-centre Inv-loop μ-loop
+cast-centre c = omega arith
+
+centre-requires : tie.Need-centre-requires Inv-loop μ-loop
+centre-requires c κs = omega arith
+
+loop-holds : tie.Need-loop-holds Inv-loop μ-loop
+loop-holds c =
+    let args = c .before .before .args in
+    row-start _ (rimInk (args .rect) (args .r) (args .paint)) _ _ _ _ (c .before .before .pre .order)
+
+cast-centre-2 : tie.Need-cast-centre-2 Inv-loop μ-loop
+cast-centre-2 c = omega arith
+
+centre-requires-2 : tie.Need-centre-requires-2 Inv-loop μ-loop
+centre-requires-2 c κs = omega arith
+
+cover-requires : tie.Need-cover-requires Inv-loop μ-loop
+cover-requires c κs = omega arith
+
+add-x : tie.Need-add-x Inv-loop μ-loop
+add-x c = omega arith
+
+loop-less : tie.Need-loop-less Inv-loop μ-loop
+loop-less c = omega arith
+
+loop-again : tie.Need-loop-again Inv-loop μ-loop
+unfolding rimInk
+loop-again c =
+    let cv = c .before in
+    let turn = cv .before .before in
+    let loop = turn .before in
+    row-pass (loop .before .before .before .pre) (loop .loop .inv) (turn .loop-test .taken)
+    (rw (← (loop .before .centre .ensures), ← (cv .before .centre2 .ensures), ← (cv .cover .ensures), c .if1 .taken) (sym (overC-none _ _)))
+
+colour-at-requires : tie.Need-colour-at-requires Inv-loop μ-loop
+colour-at-requires c κs = omega arith
+
+add-i : tie.Need-add-i Inv-loop μ-loop
+add-i c = omega arith
+
+mul-blend-c : tie.Need-mul-blend-c Inv-loop μ-loop
+mul-blend-c c = omega arith
+
+slice-read-blend-c : tie.Need-slice-read-blend-c Inv-loop μ-loop
+slice-read-blend-c c = omega arith
+
+blend-c-requires : tie.Need-blend-c-requires Inv-loop μ-loop
+blend-c-requires c κs = omega arith
+
+mul-px : tie.Need-mul-px Inv-loop μ-loop
+mul-px c = omega arith
+
+slice-write-px : tie.Need-slice-write-px Inv-loop μ-loop
+slice-write-px c = omega arith
+
+add-x-2 : tie.Need-add-x-2 Inv-loop μ-loop
+add-x-2 c = omega arith
+
+loop-less-2 : tie.Need-loop-less-2 Inv-loop μ-loop
+loop-less-2 c = omega arith
+
+loop-again-2 : tie.Need-loop-again-2 Inv-loop μ-loop
+unfolding rimInk
+loop-again-2 c =
+    let at = c .before .before in
+    let cv = at .before .before in
+    let turn = cv .before .before in
+    let loop = turn .before in
+    row-next (loop .before .before .before .pre) (loop .loop .inv) (turn .loop-test .taken)
+    (c .blend-c .ensures ∙ rw (at .colour-at .ensures, cv .cover .ensures, cv .before .centre2 .ensures, loop .before .centre .ensures))
+
+same-length : tie.Need-same-length Inv-loop μ-loop
+same-length c = omega arith
+
+returns : tie.Need-returns Inv-loop μ-loop
+returns c = row-end (c .before .loop .inv) (c .loop-test .left)
+
+pub rim-span-spec : {M : Type 1} → statement M
+rim-span-spec =
+    tie.close
+    (tie.spec
+    Inv-loop
+    μ-loop
+    mul-row
+    cast-centre
+    centre-requires
+    loop-holds
+    cast-centre-2
+    centre-requires-2
+    cover-requires
+    add-x
+    loop-less
+    loop-again
+    colour-at-requires
+    add-i
+    mul-blend-c
+    slice-read-blend-c
+    blend-c-requires
+    mul-px
+    slice-write-px
+    add-x-2
+    loop-less-2
+    loop-again-2
+    same-length
+    returns)

@@ -1,0 +1,297 @@
+// Filled rectangles and circles, as gfx.rs fills them: the rims of each row by distance, its middle whole.
+use color::Color;
+use color::blend_c;
+use color::over;
+use draw::Area;
+use draw::clipped;
+use geom::IRect;
+use geom::Rect;
+use geom::float_ok;
+use geom::nat_of;
+use gfx::Canvas;
+use gfx::Done;
+use gfx::Paint;
+use gfx::centre;
+use gfx::cov8;
+use gfx::radius;
+use gfx::rrect_sd;
+ghost use mathlib.Core.Path.{_≡_};
+ghost use mathlib.Core.Bool.{Bool};
+ghost use Prim.Native.Nat.{_+_, _≤_, min, max};
+ghost use lib.ListN.{length};
+ghost use Rattle.mathf.specs.F32.{f0};
+ghost use Rattle.mathf.specs.Convert.{toI32};
+ghost use Rattle.geom.specs.Int.{up};
+ghost use Rattle.draw.specs.Draw.{drawn};
+ghost use Rattle.draw.specs.Areas.{area, drawnIn, clipTo, RowFits, AreaFits};
+ghost use Rattle.gfx.specs.declared.paints.Paint.the-variants.{Solid};
+ghost use Rattle.gfx.specs.Paints.{paintAt};
+ghost use Rattle.fill.specs.Fill.{fillReach, edgeRow, cornerRow, endsOf, coverOf, rimInk, middleInk, roundInk, fillInk};
+ghost use Rattle.fill.specs.Fill.{Filled, rrectFloats, rectFloats, circleFloats, circleRect};
+ghost use Rattle.fill.specs.Rows.{Cuts};
+
+// Where the left rim of a row ends and where the right rim starts.
+struct Ends {
+    le: f32,
+    rs: f32,
+}
+
+// The same as columns: the middle of a row lies between them.
+struct Cut {
+    lend: usize,
+    rstart: usize,
+}
+
+// The pixels around the rectangle; none where it has no width or no height.
+fn reach(rect: Rect) -> IRect
+    ensures { λ b. ⌜ b ≡ fillReach rect ⌝ }
+{
+    if rect.is_empty() {
+        return IRect::new(0, 0, 0, 0);
+    }
+    IRect::from_rect_outer(rect)
+}
+
+// Whether a row lies less than 1 below the top or above the bottom.
+fn edge_row(rect: Rect, yc: f32) -> bool
+    ensures { λ t. ⌜ t ≡ edgeRow rect yc ⌝ }
+{
+    (yc < rect.y + 1.0) | (yc > rect.bottom() - 1.0)
+}
+
+// Whether a row lies beside a round corner.
+fn corner_row(rect: Rect, r: f32, yc: f32) -> bool
+    ensures { λ t. ⌜ t ≡ cornerRow rect r yc ⌝ }
+{
+    (r > 0.0) & ((yc < rect.y + r) | (yc > rect.bottom() - r))
+}
+
+fn row_ends(rect: Rect, r: f32, yc: f32) -> Ends
+    ensures { λ e. ⌜ e ≡ endsOf rect r yc ⌝ }
+{
+    if corner_row(rect, r, yc) {
+        return Ends {
+            le: mathf::ceil(rect.x + r),
+            rs: mathf::floor(rect.right() - r),
+        };
+    }
+    Ends {
+        le: mathf::ceil(rect.x) + 1.0,
+        rs: mathf::floor(rect.right()) - 1.0,
+    }
+}
+
+// A float as a column, brought to lo up to hi.
+fn column(x: f32, lo: usize, hi: usize) -> usize
+    requires { ⌜ lo ≤ hi ⌝ }
+    ensures { λ n. ⌜ n ≡ max lo (min (up (toI32 x)) hi) ⌝ }
+{
+    let n = nat_of(mathf::to_i32(x));
+    if n < lo {
+        lo
+    } else if n < hi {
+        n
+    } else {
+        hi
+    }
+}
+
+// Where row y is cut, between the columns x0 and x1: an edge row has no middle.
+fn cut_row(rect: Rect, r: f32, y: usize, x0: usize, x1: usize) -> Cut
+    requires { ⌜ (x0 ≤ x1) × (y ≤ 2048) ⌝ }
+    ensures { λ c. ⌜ Cuts rect r y x0 x1 c ⌝ }
+{
+    let yc = centre(y as u16);
+    if edge_row(rect, yc) {
+        return Cut {
+            lend: x1,
+            rstart: x1,
+        };
+    }
+    let e = row_ends(rect, r, yc);
+    let lend = column(e.le, x0, x1);
+    let rstart = column(e.rs, lend, x1);
+    Cut { lend, rstart }
+}
+
+// The coverage of a point by its distance to the outline.
+fn cover(rect: Rect, r: f32, xc: f32, yc: f32) -> u32
+    ensures { λ n. ⌜ n ≡ coverOf rect r xc yc ⌝ }
+{
+    cov8(rrect_sd(xc, yc, rect.cx(), rect.cy(), rect.w * 0.5, rect.h * 0.5, r))
+}
+
+// The colour of a paint at a point; a plain colour costs no call.
+fn colour_at(paint: Paint, xc: f32, yc: f32) -> Color
+    ensures { λ c. ⌜ c ≡ paintAt paint xc yc ⌝ }
+{
+    match paint {
+        Paint::Solid(c) => c,
+        _ => paint.at(xc, yc),
+    }
+}
+
+// Columns of row y by coverage.
+fn rim_span(
+    px: &mut [u32],
+    w: usize,
+    y: usize,
+    x0: usize,
+    x1: usize,
+    rect: Rect,
+    r: f32,
+    paint: Paint,
+)
+    requires { ⌜ RowFits w y x0 x1 (length (now px)) ⌝ }
+    ensures { λ _. ⌜ now (px .exit) ≡ drawnIn w (area x0 y x1 (y + 1)) (rimInk rect r paint) (now (px .entry)) ⌝ }
+{
+    let row = y * w;
+    let yc = centre(y as u16);
+    for x in x0..x1 {
+        let xc = centre(x as u16);
+        let cv = cover(rect, r, xc, yc);
+        if cv == 0 {
+            continue;
+        }
+        let c = colour_at(paint, xc, yc);
+        let i = row + x;
+        px[i] = blend_c(px[i], c, cv);
+    }
+}
+
+// Columns of row y set to one value.
+fn store_span(px: &mut [u32], w: usize, y: usize, x0: usize, x1: usize, v: u32)
+    requires { ⌜ RowFits w y x0 x1 (length (now px)) ⌝ }
+    ensures { λ _. ⌜ now (px .exit) ≡ drawnIn w (area x0 y x1 (y + 1)) (λ _ _ _. v) (now (px .entry)) ⌝ }
+{
+    let row = y * w;
+    for x in x0..x1 {
+        px[row + x] = v;
+    }
+}
+
+// Columns of row y under a colour.
+fn over_span(px: &mut [u32], w: usize, y: usize, x0: usize, x1: usize, c: Color)
+    requires { ⌜ RowFits w y x0 x1 (length (now px)) ⌝ }
+    ensures { λ _. ⌜ now (px .exit) ≡ drawnIn w (area x0 y x1 (y + 1)) (middleInk (Solid c)) (now (px .entry)) ⌝ }
+{
+    let row = y * w;
+    let a = c.a as u32;
+    for x in x0..x1 {
+        let i = row + x;
+        px[i] = over(px[i], c, a);
+    }
+}
+
+// Columns of row y under a paint, which is asked at each pixel.
+fn paint_span(px: &mut [u32], w: usize, y: usize, x0: usize, x1: usize, paint: Paint)
+    requires { ⌜ RowFits w y x0 x1 (length (now px)) ⌝ }
+    ensures { λ _. ⌜ now (px .exit) ≡ drawnIn w (area x0 y x1 (y + 1)) (middleInk paint) (now (px .entry)) ⌝ }
+{
+    let row = y * w;
+    let yc = centre(y as u16);
+    for x in x0..x1 {
+        let c = paint.at(centre(x as u16), yc);
+        let i = row + x;
+        px[i] = over(px[i], c, c.a as u32);
+    }
+}
+
+// Columns of row y under a colour: plain stores at full alpha, nothing at alpha 0.
+fn solid_span(px: &mut [u32], w: usize, y: usize, x0: usize, x1: usize, c: Color)
+    requires { ⌜ RowFits w y x0 x1 (length (now px)) ⌝ }
+    ensures { λ _. ⌜ now (px .exit) ≡ drawnIn w (area x0 y x1 (y + 1)) (middleInk (Solid c)) (now (px .entry)) ⌝ }
+{
+    if c.a == 255 {
+        store_span(px, w, y, x0, x1, c.pix());
+        return;
+    }
+    if c.a > 0 {
+        over_span(px, w, y, x0, x1, c);
+    }
+}
+
+// The middle of row y, by the kind of its paint.
+fn middle_span(px: &mut [u32], w: usize, y: usize, x0: usize, x1: usize, paint: Paint)
+    requires { ⌜ RowFits w y x0 x1 (length (now px)) ⌝ }
+    ensures { λ _. ⌜ now (px .exit) ≡ drawnIn w (area x0 y x1 (y + 1)) (middleInk paint) (now (px .entry)) ⌝ }
+{
+    match paint {
+        Paint::Solid(c) => solid_span(px, w, y, x0, x1, c),
+        _ => paint_span(px, w, y, x0, x1, paint),
+    }
+}
+
+// Row y between the columns x0 and x1: rim, middle, rim.
+fn fill_row(
+    px: &mut [u32],
+    w: usize,
+    y: usize,
+    x0: usize,
+    x1: usize,
+    rect: Rect,
+    r: f32,
+    paint: Paint,
+)
+    requires { ⌜ RowFits w y x0 x1 (length (now px)) ⌝ }
+    ensures { λ _. ⌜ now (px .exit) ≡ drawnIn w (area x0 y x1 (y + 1)) (roundInk rect r paint) (now (px .entry)) ⌝ }
+{
+    let c = cut_row(rect, r, y, x0, x1);
+    let lend = c.lend;
+    let rstart = c.rstart;
+    rim_span(px, w, y, x0, lend, rect, r, paint);
+    middle_span(px, w, y, lend, rstart, paint);
+    rim_span(px, w, y, rstart, x1, rect, r, paint);
+}
+
+// The rows of an area.
+fn fill_box(px: &mut [u32], w: usize, bb: Area, rect: Rect, r: f32, paint: Paint)
+    requires { ⌜ AreaFits w bb (length (now px)) ⌝ }
+    ensures { λ _. ⌜ now (px .exit) ≡ drawnIn w bb (roundInk rect r paint) (now (px .entry)) ⌝ }
+{
+    let x0 = bb.x0;
+    let x1 = bb.x1;
+    for y in bb.y0..bb.y1 {
+        fill_row(px, w, y, x0, x1, rect, r, paint);
+    }
+}
+
+// A rounded rectangle under the clip, unless the call is refused.
+fn filled(canvas: Canvas, px: &mut [u32], ok: bool, rect: Rect, r: f32, paint: Paint) -> Done
+    ensures { λ d. ⌜ Filled canvas ok rect r paint (now (px .entry)) d (now (px .exit)) ⌝ }
+{
+    let number = canvas.shape_number(px.len(), ok);
+    if number != 0 {
+        return Done { number, canvas };
+    }
+    let w = nat_of(canvas.w);
+    let clip = canvas.clip;
+    let bb = clipped(reach(rect), clip);
+    fill_box(px, w, bb, rect, radius(rect, r), paint);
+    Done { number, canvas }
+}
+
+// A rectangle with round corners.
+pub fn fill_rrect(canvas: Canvas, px: &mut [u32], rect: Rect, r: f32, paint: Paint) -> Done
+    ensures { λ d. ⌜ Filled canvas (rrectFloats rect r paint) rect r paint (now (px .entry)) d (now (px .exit)) ⌝ }
+{
+    let ok = rect.in_range() & float_ok(r) & paint.in_range();
+    filled(canvas, px, ok, rect, r, paint)
+}
+
+// A rectangle.
+pub fn fill_rect(canvas: Canvas, px: &mut [u32], rect: Rect, paint: Paint) -> Done
+    ensures { λ d. ⌜ Filled canvas (rectFloats rect paint) rect f0 paint (now (px .entry)) d (now (px .exit)) ⌝ }
+{
+    let ok = rect.in_range() & paint.in_range();
+    filled(canvas, px, ok, rect, 0.0, paint)
+}
+
+// A circle around cx and cy.
+pub fn fill_circle(canvas: Canvas, px: &mut [u32], cx: f32, cy: f32, r: f32, paint: Paint) -> Done
+    ensures { λ d. ⌜ Filled canvas (circleFloats cx cy r paint) (circleRect cx cy r) r paint (now (px .entry)) d (now (px .exit)) ⌝ }
+{
+    let ok = float_ok(cx) & float_ok(cy) & float_ok(r) & paint.in_range();
+    let rect = Rect::new(cx - r, cy - r, r * 2.0, r * 2.0);
+    filled(canvas, px, ok, rect, r, paint)
+}
