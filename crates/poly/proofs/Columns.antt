@@ -1,13 +1,13 @@
 -- Columns of the box, signed in the definitions and natural in the code: that the columns an edge's row starts and ends in lie in the box,
 -- since a float that is clamped to 0 .. n has a floor and a ceiling of 0 .. n, and a NaN counts as 0. Assumes nothing.
-use mathlib.Core.Path.{_≡_, refl, sym, ap, _∙_}
+use mathlib.Core.Path.{_≡_, sym, ap, _∙_}
 use mathlib.Core.Bool.{true, false}
 use mathlib.Core.List.{List}
-use Prim.Native.Nat.{ℕ, zero, suc, _+_, _-_, _*_, _/_, _^_, _≤_, min, zero-le}
+use Prim.Native.Nat.{ℕ, zero, suc, _+_, _-_, _*_, _/_, _^_, _≤_, min}
 use native.Mathlib.Nat.{add-zero, sub-zero}
 use native.Mathlib.Omega.{arith}
 use borrow.Author.Tests.{le-ltb}
-use lib.IntN.{ℤ, pos, natAbs, negℤ, _+ℤ_, _-ℤ_}
+use lib.IntN.{ℤ, pos, natAbs, negℤ, _-ℤ_}
 use lib.Ieee.{Float, nan, inf, fin, toUnsigned, toSigned}
 use lib.Ieee as Ieee
 use Rattle.mathf.specs.F32.{_+ᶠ_, _-ᶠ_, _*ᶠ_, ofℕᶠ, f0, f1, f1½}

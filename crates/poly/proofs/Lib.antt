@@ -1,4 +1,9 @@
 -- Laws that more than one proof cites.
 pub mod Words
 pub mod Columns
-pub mod Rows
+pub mod Turns
+pub mod Signs
+pub mod Boxed
+pub mod Needs
+pub mod Spans
+pub mod Calls

@@ -7,7 +7,7 @@ use native.Mathlib.Omega.{arith}
 use lib.ListN.{length}
 use lib.Ieee.{Float}
 use Rattle.poly.specs.Lines.{edgeX, edgeRows, rowNext}
-use Rattle.poly.proofs.Rows.{row-words, edgeX-more, edgeRows-more}
+use Rattle.poly.proofs.Turns.{row-words, edgeX-more, edgeRows-more}
 use Rattle.poly.proofs.edge.edge_rows.Statement.{statement}
 use Rattle.poly.proofs.edge.edge_rows.Tie as tie
 
