@@ -30,7 +30,7 @@ use Rattle.poly.proofs.Signs.{up-size}
 
 -- ---- a float within 8,192 of 0
 
-abbrev Small : Float → Type 0
+abbrev pub Small : Float → Type 0
 Small nan = ⊥
 Small (inf s) = ⊥
 Small (fin s m e) = m * up e ≤ 8192 * down e
@@ -71,14 +71,14 @@ left-pos a b h = omega arith
 big : ℕ
 big = (2 ^ 24 - 1) * 2 ^ 104
 
-below-max : (x : Float) → Small x → lt x fMax ≡ true
+pub below-max : (x : Float) → Small x → lt x fMax ≡ true
 unfolding lt ofBits big
 below-max nan s = absurd s
 below-max (inf t) s = absurd s
 below-max (fin true m e) s = lt-ltb 0 (m * up e * 1 + big * down e) (right-pos (m * up e * 1) (big * down e) (mul-pos (lit< tt) (down-pos e)))
 below-max (fin false m e) s = lt-ltb (m * up e * 1) (big * down e) (room (m * up e) (down e) big (down-pos e) s (lit< tt))
 
-above-min : (x : Float) → Small x → lt (neg fMax) x ≡ true
+pub above-min : (x : Float) → Small x → lt (neg fMax) x ≡ true
 unfolding lt ofBits neg big
 above-min nan s = absurd s
 above-min (inf t) s = absurd s
@@ -117,19 +117,19 @@ pub record Close (e : Extent) : Type 0 where
   pub bottom : Small (e .maxy)
 
 module _ (pts : List Float) (h : coordsOk pts ≡ true) where
-  at : (k : ℕ) → k < length pts → Small (getD pts k nan)
-  at k l = small-of (getD pts k nan) (coords-at pts k h l)
+  pub coordinate : (k : ℕ) → k < length pts → Small (getD pts k nan)
+  coordinate k l = small-of (getD pts k nan) (coords-at pts k h l)
 
   pub extent-close : (n : ℕ) → n < pointCount pts → Close (extentOf pts (suc n))
   unfolding extentOf
   extent-close zero l =
-      let x = at 0 (omega arith) in
-      let y = at 1 (omega arith) in
+      let x = coordinate 0 (omega arith) in
+      let y = coordinate 1 (omega arith) in
       record { left = min-first _ x; top = min-first _ y; right = max-first _ x; bottom = max-first _ y }
   extent-close (suc n) l =
       let c = extent-close n (omega arith) in
-      let x = at (suc n * 2) (omega arith) in
-      let y = at (suc n * 2 + 1) (omega arith) in
+      let x = coordinate (suc n * 2) (omega arith) in
+      let y = coordinate (suc n * 2 + 1) (omega arith) in
       record { left = min-next _ _ (c .left) x; top = min-next _ _ (c .top) y; right = max-next _ _ (c .right) x; bottom = max-next _ _ (c .bottom) y }
 
 -- the numbers that ox, oy, bw and bh are made of
@@ -139,12 +139,12 @@ pub record Whole (e : Extent) : Type 0 where
   pub right : natAbs (toI32 (ceilOf (e .maxx))) ≤ 8192
   pub bottom : natAbs (toI32 (ceilOf (e .maxy))) ≤ 8192
 
-some : (n : ℕ) → 0 < n → n ≡ suc (n - 1)
-some n h = omega arith
+pub last : (n : ℕ) → 0 < n → n ≡ suc (n - 1)
+last n h = omega arith
 
 pub extent-whole : (pts : List Float) → Ranged pts → Whole (extentOf pts (pointCount pts))
 extent-whole pts r =
-    let e : pointCount pts ≡ suc (pointCount pts - 1) = some (pointCount pts) (omega (arith, r .some)) in
+    let e : pointCount pts ≡ suc (pointCount pts - 1) = last (pointCount pts) (omega (arith, r .some)) in
     let c : Close (extentOf pts (pointCount pts)) = rw e (extent-close pts (r .coords) (pointCount pts - 1) (omega (arith, r .some))) in
     record {
       left = floor-size 8192 (lit≤ tt) _ (small-sized _ (c .left));

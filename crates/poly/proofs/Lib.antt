@@ -6,4 +6,5 @@ pub mod Signs
 pub mod Boxed
 pub mod Needs
 pub mod Spans
+pub mod Sides
 pub mod Calls

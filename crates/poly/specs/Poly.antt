@@ -66,7 +66,7 @@ polyBox pts =
     let oy = originOf (e .miny) in
     record { ox = ox; oy = oy; bw = spanOf (e .maxx) ox; bh = spanOf (e .maxy) oy }
 
--- nothing is painted under 3 points or where bw × bh exceeds 4,000,000; bw and bh are never 0 (proofs/Boxed.antt)
+-- nothing is painted under 3 points or where bw × bh exceeds 4,000,000; bw and bh are never 0 (`sides-some`)
 unfoldable pub painted : List Float → Bool
 painted pts = leb 3 (pointCount pts) && leb (polyBox pts .bw * polyBox pts .bh) 4000000
 

@@ -1,6 +1,6 @@
 -- What the private contracts of the loops ask: that the accumulator has room for the box, that the box is near, and that a part of the
 -- canvas lies in it. Assumes nothing.
-use mathlib.Core.Bool.{true}
+use mathlib.Core.Bool.{Bool, true, false}
 use mathlib.Core.List.{List}
 use mathlib.Core.Path.{_≡_}
 use Prim.Native.Nat.{ℕ, _+_, _-_, _*_, _≤_}
@@ -12,6 +12,7 @@ use Rattle.color.specs.Inks.{overC}
 use Rattle.gfx.specs.Points.{coordsOk}
 use Rattle.gfx.specs.Paints.{paintAt, centreOf}
 use Rattle.gfx.specs.declared.paints.Paint.{Paint}
+use Rattle.gfx.specs.declared.paints.Paint.the-variants.{Solid, VGrad, Linear, Radial}
 use Rattle.poly.specs.Poly.{pointCount, offsetOf, runSum, coverOf}
 use Rattle.poly.specs.declared.bounds.PolyBox.{PolyBox}
 
@@ -37,6 +38,13 @@ pub record Near (g : PolyBox) : Type 0 where
 -- a pixel by the words of its row, which starts at ls: column x0 is the one after `skip`
 unfoldable pub inkFrom : List Float → ℕ → ℕ → ℕ → Paint → ℕ → ℕ → ℕ → ℕ
 inkFrom acc ls skip x0 paint x y p = overC p (paintAt paint (centreOf x) (centreOf y)) (coverOf (runSum acc ls (skip + (x - x0) + 1)))
+
+-- whether a paint has one colour in a whole row
+unfoldable pub levelOf : Paint → Bool
+levelOf (Solid c) = true
+levelOf (VGrad y0 y1 c0 c1) = true
+levelOf (Linear p0 p1 c0 c1) = false
+levelOf (Radial c r c0 c1) = false
 
 -- columns or rows from a up to b of the canvas lie in a box's, which start at the origin
 pub record Over (origin : ℤ) (span a b : ℕ) : Type 0 where

@@ -1,6 +1,7 @@
 // From the accumulator to the pixels.
 use crate::bounds::PolyBox;
 use crate::bounds::reach_of;
+use color::Color;
 use color::blend_c;
 use draw::Area;
 use draw::clipped;
@@ -16,7 +17,8 @@ ghost use Rattle.color.specs.Inks.{overC};
 ghost use Rattle.gfx.specs.Paints.{paintAt, centreOf};
 ghost use Rattle.draw.specs.Areas.{drawnIn, area, clipTo, RowFits, AreaFits};
 ghost use Rattle.poly.specs.Poly.{runSum, offsetOf, coverOf, inkIn, reachOf};
-ghost use Rattle.poly.specs.Rooms.{Room, Near, Over, inkFrom};
+ghost use Rattle.poly.specs.Rooms.{Room, Near, Over, inkFrom, levelOf};
+ghost use Rattle.gfx.specs.declared.paints.Paint.the-variants.{Solid};
 
 // A signed area as a coverage, 0 to 255.
 fn cover(a: f32) -> u32
@@ -56,7 +58,7 @@ fn run_sum(acc: &[f32], i: usize, n: usize) -> f32
 
 // The columns from x0 up to x1 of row y of the canvas, where the box's row starts at ls and column x0 is the one after `skip`. The sum
 // starts at the box's first column, wherever the clip starts.
-fn sum_row(
+fn paint_row(
     px: &mut [u32],
     acc: &[f32],
     pitch: usize,
@@ -80,6 +82,85 @@ fn sum_row(
             continue;
         }
         px[row + x] = shade(px[row + x], paint, x, y, cv);
+    }
+}
+
+// The same in one colour.
+fn flat_row(
+    px: &mut [u32],
+    acc: &[f32],
+    pitch: usize,
+    x0: usize,
+    x1: usize,
+    y: usize,
+    ls: usize,
+    skip: usize,
+    c: Color,
+)
+    requires { ⌜ RowFits pitch y x0 x1 (length (now px)) ⌝ }
+    requires { ⌜ ls + (skip + (x1 - x0)) ≤ length (now acc) ⌝ }
+    ensures { λ _. ⌜ now (px .exit) ≡ drawnIn pitch (area x0 y x1 (y + 1)) (inkFrom (now (acc .entry)) ls skip x0 (Solid c)) (now (px .entry)) ⌝ }
+{
+    let row = y * pitch;
+    let mut a = run_sum(acc, ls, skip);
+    for x in x0..x1 {
+        a = a + acc[ls + (skip + (x - x0))];
+        let cv = cover(a);
+        if cv == 0 {
+            continue;
+        }
+        px[row + x] = blend_c(px[row + x], c, cv);
+    }
+}
+
+// Whether a paint has one colour in a whole row.
+fn level(paint: Paint) -> bool
+    ensures { λ r. ⌜ r ≡ levelOf paint ⌝ }
+{
+    match paint {
+        Paint::Solid(_) => true,
+        Paint::VGrad {
+            y0: _,
+            y1: _,
+            c0: _,
+            c1: _,
+        } => true,
+        Paint::Linear {
+            p0: _,
+            p1: _,
+            c0: _,
+            c1: _,
+        } => false,
+        Paint::Radial {
+            c: _,
+            r: _,
+            c0: _,
+            c1: _,
+        } => false,
+    }
+}
+
+// The same, with the colour of a level paint taken once.
+fn sum_row(
+    px: &mut [u32],
+    acc: &[f32],
+    pitch: usize,
+    x0: usize,
+    x1: usize,
+    y: usize,
+    ls: usize,
+    skip: usize,
+    paint: Paint,
+)
+    requires { ⌜ RowFits pitch y x0 x1 (length (now px)) ⌝ }
+    requires { ⌜ ls + (skip + (x1 - x0)) ≤ length (now acc) ⌝ }
+    ensures { λ _. ⌜ now (px .exit) ≡ drawnIn pitch (area x0 y x1 (y + 1)) (inkFrom (now (acc .entry)) ls skip x0 paint) (now (px .entry)) ⌝ }
+{
+    if level(paint) {
+        let c = paint.at(centre(x0 as u16), centre(y as u16));
+        flat_row(px, acc, pitch, x0, x1, y, ls, skip, c);
+    } else {
+        paint_row(px, acc, pitch, x0, x1, y, ls, skip, paint);
     }
 }
 
