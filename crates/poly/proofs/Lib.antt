@@ -1,0 +1,10 @@
+-- Laws that more than one proof cites.
+pub mod Words
+pub mod Columns
+pub mod Turns
+pub mod Signs
+pub mod Boxed
+pub mod Needs
+pub mod Spans
+pub mod Sides
+pub mod Calls

@@ -1,0 +1,78 @@
+-- Whether a polygon is painted, and the scratch words that it needs. Assumes nothing.
+use mathlib.Core.Path.{_≡_, refl}
+use mathlib.Core.Bool.{true, false, cond}
+use mathlib.Core.List.{List}
+use Prim.Native.Nat.{ℕ, _+_, _*_, _<_, _≤_}
+use native.Mathlib.Nat.{mul-le-mul}
+use native.Mathlib.Omega.{arith}
+use lib.Dec.{leb}
+use lib.Ieee.{Float}
+use borrow.Author.Tests.{leb-true, le-leb, lt-leb}
+use Rattle.geom.specs.Box.{noBox, empty}
+use Rattle.geom.specs.declared.IRect.{IRect}
+use Rattle.geom.proofs.Bools.{and-left, split}
+use Rattle.geom.proofs.Boxes.{meet-empty}
+use Rattle.draw.specs.Areas.{area, clipTo, drawnIn}
+use Rattle.draw.proofs.Rows.{none-across}
+use Rattle.poly.specs.Poly.{pointCount, polyBox, painted, reachOf, polyReach, needOf, polyNeed, cleared}
+use Rattle.poly.specs.Rooms.{Room, Near}
+use Rattle.poly.specs.declared.bounds.PolyBox.{PolyBox}
+
+-- the sizes of a box are no trouble
+pub box-cells : (g : PolyBox) → Near g → g .bw * g .bh ≤ 268500996
+box-cells g n = mul-le-mul (n .wide) (n .high)
+
+pub box-words : (g : PolyBox) → Near g → (g .bw + 2) * g .bh ≤ 268533768
+box-words g n = let w : g .bw + 2 ≤ 16388 = omega (arith, n .wide) in mul-le-mul w (n .high)
+
+pub box-room : (g : PolyBox) {n : ℕ} → Near g → n ≡ needOf g → Room (g .bw) (g .bh) n
+box-room g r e = record { wide = r .wide; high = r .high; words = omega (arith, e) }
+
+module _ (pts : List Float) where
+  -- ---- by the box
+  pub few-need : pointCount pts < 3 → 0 ≡ polyNeed pts
+  unfolding polyNeed painted
+  few-need h = rw (lt-leb 3 (pointCount pts) h)
+
+  module _ (g : PolyBox) (e : g ≡ polyBox pts) (h : 3 ≤ pointCount pts) where
+    pub large-need : 4000000 < g .bw * g .bh → 0 ≡ polyNeed pts
+    unfolding polyNeed painted
+    large-need l = rw (le-leb 3 (pointCount pts) h, ← e, lt-leb (g .bw * g .bh) 4000000 l)
+
+    pub small-need : g .bw * g .bh ≤ 4000000 → needOf g ≡ polyNeed pts
+    unfolding polyNeed painted
+    small-need l = rw (le-leb 3 (pointCount pts) h, ← e, le-leb (g .bw * g .bh) 4000000 l)
+
+  -- ---- by the need: a polygon that is painted needs two words and more
+  pub some-painted : (polyNeed pts ≡ 0 → ⊥) → painted pts ≡ true
+  unfolding polyNeed
+  some-painted k = split (painted pts) (λ t. (cond t (needOf (polyBox pts)) 0 ≡ 0 → ⊥) → t ≡ true) (λ e k. refl) (λ e k. absurd (k refl)) k
+
+  pub none-painted : polyNeed pts ≡ 0 → painted pts ≡ false
+  unfolding polyNeed
+  none-painted z = split (painted pts) (λ t. cond t (needOf (polyBox pts)) 0 ≡ 0 → t ≡ false) (λ e z. absurd (more ((polyBox pts .bw + 2) * polyBox pts .bh) z)) (λ e z. refl) z
+    where
+      more : (k : ℕ) → k + 2 ≡ 0 → ⊥
+      more k e = omega arith
+
+  module _ (e : painted pts ≡ true) where
+    pub reach-is : reachOf (polyBox pts) ≡ polyReach pts
+    unfolding polyReach
+    reach-is = rw e
+
+    pub need-is : needOf (polyBox pts) ≡ polyNeed pts
+    unfolding polyNeed
+    need-is = rw e
+
+    pub points-some : 3 ≤ pointCount pts
+    unfolding painted
+    points-some = leb-true 3 (pointCount pts) (and-left (leb 3 (pointCount pts)) (leb (polyBox pts .bw * polyBox pts .bh) 4000000) e)
+
+  module _ (e : painted pts ≡ false) where
+    pub nothing-drawn : (pitch : ℕ) (clip : IRect) (f : ℕ → ℕ → ℕ → ℕ) (px : List ℕ) → px ≡ drawnIn pitch (clipTo (polyReach pts) clip) f px
+    unfolding polyReach clipTo noBox empty
+    nothing-drawn pitch clip f px = rw (e, meet-empty noBox clip refl) (none-across pitch f px (area 0 0 0 0) (omega arith))
+
+    pub nothing-cleared : (scratch : List Float) → scratch ≡ cleared (polyNeed pts) scratch
+    unfolding polyNeed cleared
+    nothing-cleared scratch = rw e

@@ -1,0 +1,143 @@
+-- `fill_poly`: a polygon's box, its accumulator and what it leaves in a pixel and in the scratch, bit for bit. The points are a list of
+-- coordinates x y x y. Assumes nothing.
+use mathlib.Core.Bool.{Bool, cond, _&&_}
+use mathlib.Core.List.{List, _++_}
+use mathlib.Core.Path.{_≡_}
+use Prim.Native.Nat.{ℕ, zero, suc, _+_, _*_, _/_, _%_}
+use lib.Dec.{leb, eqb}
+use lib.IntN.{ℤ, pos, _+ℤ_, _-ℤ_}
+use lib.ListN.{length, getD, replicate, drop}
+use lib.Ieee.{Float, nan, binary32, ofBits, neg}
+use Rattle.mathf.specs.F32.{_+ᶠ_, _-ᶠ_, _*ᶠ_, ofZᶠ, f0, f½, f255}
+use Rattle.mathf.specs.Order.{minOf, maxOf, fabsOf, saturateOf}
+use Rattle.mathf.specs.Whole.{floorOf, ceilOf}
+use Rattle.mathf.specs.Convert.{toI32, toU32}
+use Rattle.geom.specs.Int.{up}
+use Rattle.geom.specs.Box.{boxOf, noBox}
+use Rattle.geom.specs.Plane.{ptOf}
+use Rattle.geom.specs.declared.Pt.{Pt}
+use Rattle.geom.specs.declared.IRect.{IRect}
+use Rattle.color.specs.Inks.{overC}
+use Rattle.draw.specs.Draw.{drawn}
+use Rattle.gfx.specs.Calls.{unless, Called}
+use Rattle.gfx.specs.Points.{pointsNumber}
+use Rattle.gfx.specs.Paints.{paintAt, paintOk, centreOf}
+use Rattle.gfx.specs.declared.Canvas.{Canvas}
+use Rattle.gfx.specs.declared.Done.{Done}
+use Rattle.gfx.specs.declared.paints.Paint.{Paint}
+use Rattle.poly.specs.Lines.{lineAccum}
+use Rattle.poly.specs.declared.bounds.Extent.{Extent}
+use Rattle.poly.specs.declared.bounds.PolyBox.{PolyBox}
+
+-- ---- points
+
+abbrev pub pointCount : List Float → ℕ
+pointCount pts = length pts / 2
+
+abbrev pub pointAt : List Float → ℕ → Pt
+pointAt pts i = ptOf (getD pts (i * 2) nan) (getD pts (i * 2 + 1) nan)
+
+-- ---- the box
+
+-- f32::MAX; f32::MIN is its negative
+abbrev pub fMax : Float
+fMax = ofBits binary32 0x7f7f_ffff
+
+abbrev pub widened : Extent → Pt → Extent
+widened e p = record { minx = minOf (e .minx) (p .x); miny = minOf (e .miny) (p .y); maxx = maxOf (e .maxx) (p .x); maxy = maxOf (e .maxy) (p .y) }
+
+-- minx, miny, maxx and maxy over the first n points
+unfoldable pub extentOf : List Float → ℕ → Extent
+extentOf pts zero = record { minx = fMax; miny = fMax; maxx = neg fMax; maxy = neg fMax }
+extentOf pts (suc n) = widened (extentOf pts n) (pointAt pts n)
+
+-- ox or oy, by minx or miny
+unfoldable pub originOf : Float → ℤ
+originOf least = toI32 (floorOf least) -ℤ pos 1
+
+-- bw or bh, by maxx or maxy and by ox or oy
+unfoldable pub spanOf : Float → ℤ → ℕ
+spanOf most origin = up (toI32 (ceilOf most) +ℤ pos 1 -ℤ origin)
+
+unfoldable pub polyBox : List Float → PolyBox
+polyBox pts =
+    let e = extentOf pts (pointCount pts) in
+    let ox = originOf (e .minx) in
+    let oy = originOf (e .miny) in
+    record { ox = ox; oy = oy; bw = spanOf (e .maxx) ox; bh = spanOf (e .maxy) oy }
+
+-- nothing is painted under 3 points or where bw × bh exceeds 4,000,000; bw and bh are never 0 (`sides-some`)
+unfoldable pub painted : List Float → Bool
+painted pts = leb 3 (pointCount pts) && leb (polyBox pts .bw * polyBox pts .bh) 4000000
+
+abbrev pub reachOf : PolyBox → IRect
+reachOf g = boxOf (g .ox) (g .oy) (g .ox +ℤ pos (g .bw)) (g .oy +ℤ pos (g .bh))
+
+unfoldable pub polyReach : List Float → IRect
+polyReach pts = cond (painted pts) (reachOf (polyBox pts)) noBox
+
+-- ---- the accumulator
+
+-- its words: rows of bw + 2, and two more
+abbrev pub needOf : PolyBox → ℕ
+needOf g = (g .bw + 2) * g .bh + 2
+
+unfoldable pub polyNeed : List Float → ℕ
+polyNeed pts = cond (painted pts) (needOf (polyBox pts)) 0
+
+-- point i from the box's corner
+unfoldable pub pointFrom : List Float → PolyBox → ℕ → Pt
+pointFrom pts g i = ptOf (pointAt pts i .x -ᶠ ofZᶠ (g .ox)) (pointAt pts i .y -ᶠ ofZᶠ (g .oy))
+
+-- the first n edges: edge i goes from point i to the next, the last one to point 0
+unfoldable pub edgesAccum : List Float → List Float → PolyBox → ℕ → List Float
+edgesAccum a pts g zero = a
+edgesAccum a pts g (suc i) =
+    lineAccum (edgesAccum a pts g i) (g .bw) (g .bh) (pointFrom pts g i) (pointFrom pts g ((i + 1) % pointCount pts))
+
+-- every edge, from words that are all +0
+unfoldable pub accumulated : List Float → PolyBox → List Float
+accumulated pts g = edgesAccum (replicate (needOf g) f0) pts g (pointCount pts)
+
+-- ---- the pixels
+
+-- the sum of the n words from i, one after the other from +0
+unfoldable pub runSum : List Float → ℕ → ℕ → Float
+runSum acc i zero = f0
+runSum acc i (suc n) = runSum acc i n +ᶠ getD acc (i + n) nan
+
+-- where column x or row y of the canvas lies in the box, whose first is the origin
+abbrev pub offsetOf : ℕ → ℤ → ℕ
+offsetOf x origin = up (pos x -ℤ origin)
+
+-- the signed area at a pixel: the running sum of its row, from the box's first column up to the pixel's
+unfoldable pub areaAt : List Float → PolyBox → ℕ → ℕ → Float
+areaAt acc g x y = runSum acc (offsetOf y (g .oy) * (g .bw + 2)) (offsetOf x (g .ox) + 1)
+
+-- cv: a signed area as a coverage, 0 to 255
+unfoldable pub coverOf : Float → ℕ
+coverOf a = toU32 (saturateOf (fabsOf a) *ᶠ f255 +ᶠ f½)
+
+-- a pixel by an accumulator and its box
+unfoldable pub inkIn : List Float → PolyBox → Paint → ℕ → ℕ → ℕ → ℕ
+inkIn acc g paint x y p = overC p (paintAt paint (centreOf x) (centreOf y)) (coverOf (areaAt acc g x y))
+
+abbrev pub polyInk : List Float → Paint → ℕ → ℕ → ℕ → ℕ
+polyInk pts paint = inkIn (accumulated pts (polyBox pts)) (polyBox pts) paint
+
+-- ---- the call
+
+-- the scratch after an accepted call that needs so many words: those are +0, later ones as they came
+unfoldable pub cleared : ℕ → List Float → List Float
+cleared need scratch = replicate need f0 ++ drop need scratch
+
+-- 12, 8, 13, 6, then 9 for a scratch below need
+unfoldable pub polyNumber : Canvas → ℕ → List Float → Paint → ℕ → ℕ
+polyNumber c n pts paint words =
+    let number = pointsNumber c n pts (paintOk paint) in
+    cond (eqb number 0) (unless (leb (polyNeed pts) words) 9 0) number
+
+-- what `fill_poly` promises of number, state and px, and of the scratch, which a refused call leaves
+pub record Filled (n : ℕ) (c : Canvas) (px : List ℕ) (pts : List Float) (paint : Paint) (scratch : List Float) (r : Done) (px′ : List ℕ) (scratch′ : List Float) : Type 0 where
+  pub called : Called n c c px (drawn (up (c .w)) (c .clip) (polyReach pts) (polyInk pts paint) px) r px′
+  pub clears : scratch′ ≡ cond (eqb n 0) (cleared (polyNeed pts) scratch) scratch

@@ -1,0 +1,52 @@
+-- What the private contracts of the loops ask: that the accumulator has room for the box, that the box is near, and that a part of the
+-- canvas lies in it. Assumes nothing.
+use mathlib.Core.Bool.{Bool, true, false}
+use mathlib.Core.List.{List}
+use mathlib.Core.Path.{_≡_}
+use Prim.Native.Nat.{ℕ, _+_, _-_, _*_, _≤_}
+use lib.IntN.{ℤ, pos, natAbs}
+use lib.Signed.{leZ}
+use lib.ListN.{length}
+use lib.Ieee.{Float}
+use Rattle.color.specs.Inks.{overC}
+use Rattle.gfx.specs.Points.{coordsOk}
+use Rattle.gfx.specs.Paints.{paintAt, centreOf}
+use Rattle.gfx.specs.declared.paints.Paint.{Paint}
+use Rattle.gfx.specs.declared.paints.Paint.the-variants.{Solid, VGrad, Linear, Radial}
+use Rattle.poly.specs.Poly.{pointCount, offsetOf, runSum, coverOf}
+use Rattle.poly.specs.declared.bounds.PolyBox.{PolyBox}
+
+-- the rows of a box of bw by bh lie within n words. No box is wider or higher, since no coordinate is past 8,192
+pub record Room (bw bh n : ℕ) : Type 0 where
+  pub wide : bw ≤ 16386
+  pub high : bh ≤ 16386
+  pub words : (bw + 2) * bh ≤ n
+
+-- points that a box can be drawn around
+pub record Ranged (pts : List Float) : Type 0 where
+  pub few : length pts ≤ 128
+  pub some : 3 ≤ pointCount pts
+  pub coords : coordsOk pts ≡ true
+
+-- a box that such points have
+pub record Near (g : PolyBox) : Type 0 where
+  pub left : natAbs (g .ox) ≤ 8193
+  pub top : natAbs (g .oy) ≤ 8193
+  pub wide : g .bw ≤ 16386
+  pub high : g .bh ≤ 16386
+
+-- a pixel by the words of its row, which starts at ls: column x0 is the one after `skip`
+unfoldable pub inkFrom : List Float → ℕ → ℕ → ℕ → Paint → ℕ → ℕ → ℕ → ℕ
+inkFrom acc ls skip x0 paint x y p = overC p (paintAt paint (centreOf x) (centreOf y)) (coverOf (runSum acc ls (skip + (x - x0) + 1)))
+
+-- whether a paint has one colour in a whole row
+unfoldable pub levelOf : Paint → Bool
+levelOf (Solid c) = true
+levelOf (VGrad y0 y1 c0 c1) = true
+levelOf (Linear p0 p1 c0 c1) = false
+levelOf (Radial c r c0 c1) = false
+
+-- columns or rows from a up to b of the canvas lie in a box's, which start at the origin
+pub record Over (origin : ℤ) (span a b : ℕ) : Type 0 where
+  pub from : leZ origin (pos a) ≡ true
+  pub to : offsetOf a origin + (b - a) ≤ span

@@ -1,0 +1,230 @@
+// From the accumulator to the pixels.
+use crate::bounds::PolyBox;
+use crate::bounds::reach_of;
+use color::Color;
+use color::blend_c;
+use draw::Area;
+use draw::clipped;
+use geom::IRect;
+use geom::nat_of;
+use gfx::Paint;
+use gfx::centre;
+ghost use mathlib.Core.Path.{_≡_};
+ghost use Prim.Native.Nat.{_+_, _-_, _≤_};
+ghost use lib.IntN.{natAbs};
+ghost use lib.ListN.{length};
+ghost use Rattle.color.specs.Inks.{overC};
+ghost use Rattle.gfx.specs.Paints.{paintAt, centreOf};
+ghost use Rattle.draw.specs.Areas.{drawnIn, area, clipTo, RowFits, AreaFits};
+ghost use Rattle.poly.specs.Poly.{runSum, offsetOf, coverOf, inkIn, reachOf};
+ghost use Rattle.poly.specs.Rooms.{Room, Near, Over, inkFrom, levelOf};
+ghost use Rattle.gfx.specs.declared.paints.Paint.the-variants.{Solid};
+
+// A signed area as a coverage, 0 to 255.
+fn cover(a: f32) -> u32
+    ensures { λ r. ⌜ r ≡ coverOf a ⌝ }
+{
+    mathf::to_u32(mathf::saturate(mathf::fabs(a)) * 255.0 + 0.5)
+}
+
+// The paint over the pixel p in column x and row y.
+fn shade(p: u32, paint: Paint, x: usize, y: usize, cv: u32) -> u32
+    requires { ⌜ (x ≤ 2048) × (y ≤ 2048) ⌝ }
+    ensures { λ r. ⌜ r ≡ overC p (paintAt paint (centreOf x) (centreOf y)) cv ⌝ }
+{
+    let c = paint.at(centre(x as u16), centre(y as u16));
+    blend_c(p, c, cv)
+}
+
+// Where column or row x of the canvas lies in the box.
+fn offset(x: usize, origin: i32) -> usize
+    requires { ⌜ (x ≤ 2048) × (natAbs origin ≤ 8193) ⌝ }
+    ensures { λ r. ⌜ r ≡ offsetOf x origin ⌝ }
+{
+    nat_of(x as i32 - origin)
+}
+
+// The sum of the n words from i.
+fn run_sum(acc: &[f32], i: usize, n: usize) -> f32
+    requires { ⌜ i + n ≤ length (now acc) ⌝ }
+    ensures { λ r. ⌜ r ≡ runSum (now (acc .entry)) i n ⌝ }
+{
+    let mut a: f32 = 0.0;
+    for k in 0..n {
+        a = a + acc[i + k];
+    }
+    a
+}
+
+// The columns from x0 up to x1 of row y of the canvas, where the box's row starts at ls and column x0 is the one after `skip`. The sum
+// starts at the box's first column, wherever the clip starts.
+fn paint_row(
+    px: &mut [u32],
+    acc: &[f32],
+    pitch: usize,
+    x0: usize,
+    x1: usize,
+    y: usize,
+    ls: usize,
+    skip: usize,
+    paint: Paint,
+)
+    requires { ⌜ RowFits pitch y x0 x1 (length (now px)) ⌝ }
+    requires { ⌜ ls + (skip + (x1 - x0)) ≤ length (now acc) ⌝ }
+    ensures { λ _. ⌜ now (px .exit) ≡ drawnIn pitch (area x0 y x1 (y + 1)) (inkFrom (now (acc .entry)) ls skip x0 paint) (now (px .entry)) ⌝ }
+{
+    let row = y * pitch;
+    let mut a = run_sum(acc, ls, skip);
+    for x in x0..x1 {
+        a = a + acc[ls + (skip + (x - x0))];
+        let cv = cover(a);
+        if cv == 0 {
+            continue;
+        }
+        px[row + x] = shade(px[row + x], paint, x, y, cv);
+    }
+}
+
+// The same in one colour.
+fn flat_row(
+    px: &mut [u32],
+    acc: &[f32],
+    pitch: usize,
+    x0: usize,
+    x1: usize,
+    y: usize,
+    ls: usize,
+    skip: usize,
+    c: Color,
+)
+    requires { ⌜ RowFits pitch y x0 x1 (length (now px)) ⌝ }
+    requires { ⌜ ls + (skip + (x1 - x0)) ≤ length (now acc) ⌝ }
+    ensures { λ _. ⌜ now (px .exit) ≡ drawnIn pitch (area x0 y x1 (y + 1)) (inkFrom (now (acc .entry)) ls skip x0 (Solid c)) (now (px .entry)) ⌝ }
+{
+    let row = y * pitch;
+    let mut a = run_sum(acc, ls, skip);
+    for x in x0..x1 {
+        a = a + acc[ls + (skip + (x - x0))];
+        let cv = cover(a);
+        if cv == 0 {
+            continue;
+        }
+        px[row + x] = blend_c(px[row + x], c, cv);
+    }
+}
+
+// Whether a paint has one colour in a whole row.
+fn level(paint: Paint) -> bool
+    ensures { λ r. ⌜ r ≡ levelOf paint ⌝ }
+{
+    match paint {
+        Paint::Solid(_) => true,
+        Paint::VGrad {
+            y0: _,
+            y1: _,
+            c0: _,
+            c1: _,
+        } => true,
+        Paint::Linear {
+            p0: _,
+            p1: _,
+            c0: _,
+            c1: _,
+        } => false,
+        Paint::Radial {
+            c: _,
+            r: _,
+            c0: _,
+            c1: _,
+        } => false,
+    }
+}
+
+// The same, with the colour of a level paint taken once.
+fn sum_row(
+    px: &mut [u32],
+    acc: &[f32],
+    pitch: usize,
+    x0: usize,
+    x1: usize,
+    y: usize,
+    ls: usize,
+    skip: usize,
+    paint: Paint,
+)
+    requires { ⌜ RowFits pitch y x0 x1 (length (now px)) ⌝ }
+    requires { ⌜ ls + (skip + (x1 - x0)) ≤ length (now acc) ⌝ }
+    ensures { λ _. ⌜ now (px .exit) ≡ drawnIn pitch (area x0 y x1 (y + 1)) (inkFrom (now (acc .entry)) ls skip x0 paint) (now (px .entry)) ⌝ }
+{
+    if level(paint) {
+        let c = paint.at(centre(x0 as u16), centre(y as u16));
+        flat_row(px, acc, pitch, x0, x1, y, ls, skip, c);
+    } else {
+        paint_row(px, acc, pitch, x0, x1, y, ls, skip, paint);
+    }
+}
+
+// The columns from x0 up to x1 of row y of the canvas.
+fn poly_row(
+    px: &mut [u32],
+    acc: &[f32],
+    pitch: usize,
+    x0: usize,
+    x1: usize,
+    y: usize,
+    g: PolyBox,
+    paint: Paint,
+)
+    requires { ⌜ RowFits pitch y x0 x1 (length (now px)) ⌝ }
+    requires { ⌜ Room (g .bw) (g .bh) (length (now acc)) × Near g × Over (g .ox) (g .bw) x0 x1 × Over (g .oy) (g .bh) y (y + 1) ⌝ }
+    ensures { λ _. ⌜ now (px .exit) ≡ drawnIn pitch (area x0 y x1 (y + 1)) (inkIn (now (acc .entry)) g paint) (now (px .entry)) ⌝ }
+{
+    let ox = g.ox;
+    let oy = g.oy;
+    let stride = g.bw + 2;
+    let ls = offset(y, oy) * stride;
+    let skip = offset(x0, ox);
+    sum_row(px, acc, pitch, x0, x1, y, ls, skip, paint);
+}
+
+// The rows of an area.
+fn poly_rows(px: &mut [u32], acc: &[f32], pitch: usize, bb: Area, g: PolyBox, paint: Paint)
+    requires { ⌜ AreaFits pitch bb (length (now px)) ⌝ }
+    requires { ⌜ Room (g .bw) (g .bh) (length (now acc)) × Near g × Over (g .ox) (g .bw) (bb .x0) (bb .x1) × Over (g .oy) (g .bh) (bb .y0) (bb .y1) ⌝ }
+    ensures { λ _. ⌜ now (px .exit) ≡ drawnIn pitch bb (inkIn (now (acc .entry)) g paint) (now (px .entry)) ⌝ }
+{
+    let x0 = bb.x0;
+    let x1 = bb.x1;
+    let y0 = bb.y0;
+    let y1 = bb.y1;
+    for y in y0..y1 {
+        poly_row(px, acc, pitch, x0, x1, y, g, paint);
+    }
+}
+
+// The pixels of the box that a clip lets through.
+pub(crate) fn draw_box(
+    px: &mut [u32],
+    acc: &[f32],
+    pitch: usize,
+    clip: IRect,
+    g: PolyBox,
+    paint: Paint,
+)
+    requires { ⌜ AreaFits pitch (clipTo (reachOf g) clip) (length (now px)) ⌝ }
+    requires { ⌜ Room (g .bw) (g .bh) (length (now acc)) × Near g ⌝ }
+    ensures { λ _. ⌜ now (px .exit) ≡ drawnIn pitch (clipTo (reachOf g) clip) (inkIn (now (acc .entry)) g paint) (now (px .entry)) ⌝ }
+{
+    let bb = clipped(reach_of(g), clip);
+    let x0 = bb.x0;
+    let x1 = bb.x1;
+    let y0 = bb.y0;
+    let y1 = bb.y1;
+    if x1 <= x0 {
+        return;
+    }
+    if y1 <= y0 {
+        return;
+    }
+    poly_rows(px, acc, pitch, bb, g, paint);
+}
