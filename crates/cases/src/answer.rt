@@ -3,25 +3,25 @@ use crate::word;
 
 fn mathf_float(f: u32, a: f32, b: f32, c: f32) -> f32 {
     match f {
-        0 => mathf::sqrt(a),
-        1 => mathf::floor(a),
-        2 => mathf::ceil(a),
-        7 => mathf::min(a, b),
-        8 => mathf::max(a, b),
-        9 => mathf::fabs(a),
-        10 => mathf::clamp(a, b, c),
-        11 => mathf::saturate(a),
-        12 => mathf::lerp(a, b, c),
+        1 => mathf::sqrt(a),
+        2 => mathf::floor(a),
+        3 => mathf::ceil(a),
+        8 => mathf::min(a, b),
+        9 => mathf::max(a, b),
+        10 => mathf::fabs(a),
+        11 => mathf::clamp(a, b, c),
+        12 => mathf::saturate(a),
+        13 => mathf::lerp(a, b, c),
         _ => mathf::smoothstep(a, b, c),
     }
 }
 
 pub fn mathf(f: u32, a: f32, b: f32, c: f32) -> u64 {
     match f {
-        3 => mathf::to_u8(a) as u64,
-        4 => mathf::to_u32(a) as u64,
-        5 => mathf::to_usize(a) as u64,
-        6 => word::bits(mathf::to_i32(a)) as u64,
+        4 => mathf::to_u8(a) as u64,
+        5 => mathf::to_u32(a) as u64,
+        6 => mathf::to_usize(a) as u64,
+        7 => word::bits(mathf::to_i32(a)) as u64,
         _ => word::pattern(mathf_float(f, a, b, c)) as u64,
     }
 }

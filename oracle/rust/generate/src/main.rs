@@ -20,7 +20,7 @@ impl Stored {
         let bytes: Vec<u8> = words.iter().flat_map(|w| w.to_le_bytes()).collect();
         let mut text = String::new();
         for (f, name) in self.names.iter().enumerate() {
-            let ran = self.cases.iter().filter(|case| case[0] == f as u32).count();
+            let ran = self.cases.iter().filter(|case| case[0] == f as u32 + 1).count();
             text += &format!("{name} {ran} cases, 0 differ\n");
         }
         text += &format!("total {} cases, 0 differ\n", self.cases.len());

@@ -1,0 +1,2 @@
+-- The definitions that color's contracts cite, the law of blending and the paper's examples. Assumes nothing.
+pub mod Inks

@@ -1,0 +1,96 @@
+// Source over. Alpha 0 leaves the pixel as it is, 255 and above is the plain ink; between them each
+// channel is the nearest to the exact mix. Channels are taken by `/` and `%`, which compile to shifts and masks.
+use crate::Color;
+use crate::Pixel;
+ghost use mathlib.Core.Path.{_≡_};
+ghost use Prim.Native.Nat.{_<_, _≤_, _-_, _/_};
+ghost use Rattle.color.specs.Inks as Inks;
+ghost use Rattle.color.specs.Inks.{channel, coveredBy, overC, blendOf};
+
+// A 255th part cut down, of a number below 65,535, with no division.
+fn part255(n: u32) -> u32
+    requires { ⌜ n < 65535 ⌝ }
+    ensures { λ r. ⌜ r ≡ n / 255 ⌝ }
+{
+    (n + 1 + n / 256) / 256
+}
+
+// One channel of an ink over another, with what alpha a leaves of 255.
+fn mixed(ink: u32, old: u32, a: u32, left: u32) -> u32
+    requires { ⌜ (ink ≤ 255) × (old ≤ 255) × (a ≤ 255) × (left ≡ 255 - a) ⌝ }
+    ensures { λ r. ⌜ (r ≡ channel ink old a) × (r ≤ 255) ⌝ }
+{
+    part255(ink * a + old * left + 127)
+}
+
+// The inks of a colour over a pixel at alpha a. The remainder tells the compiler that what is left of 255 is a byte.
+pub fn over(dst: u32, c: Color, a: u32) -> u32
+    ensures { λ p. ⌜ p ≡ Inks.over dst c a ⌝ }
+{
+    if a == 0 {
+        return dst;
+    }
+    let r = c.r as u32;
+    let g = c.g as u32;
+    let b = c.b as u32;
+    if a >= 255 {
+        return r * 65536 + g * 256 + b;
+    }
+    let left = (255 - a) % 256;
+    let nr = mixed(r, dst / 65536 % 256, a, left);
+    let ng = mixed(g, dst / 256 % 256, a, left);
+    let nb = mixed(b, dst % 256, a, left);
+    nr * 65536 + ng * 256 + nb
+}
+
+// An alpha scaled by a coverage; a coverage of 255 or more keeps it.
+fn covered(a: u8, cov: u32) -> u32
+    ensures { λ r. ⌜ r ≡ coveredBy a cov ⌝ }
+{
+    let a = a as u32;
+    if cov >= 255 {
+        return a;
+    }
+    part255(a * cov + 127)
+}
+
+// A colour over a pixel, its alpha scaled by a coverage first.
+pub fn blend_c(dst: u32, c: Color, cov: u32) -> u32
+    ensures { λ p. ⌜ p ≡ overC dst c cov ⌝ }
+{
+    over(dst, c, covered(c.a, cov))
+}
+
+// The blend of any three inks. An ink over 255 is refused by 11.
+pub fn blend(dst: u32, r: u32, g: u32, b: u32, a: u32) -> Pixel
+    ensures { λ p. ⌜ p ≡ blendOf dst r g b a ⌝ }
+{
+    if r > 255 {
+        return Pixel {
+            number: 11,
+            value: 0,
+        };
+    }
+    if g > 255 {
+        return Pixel {
+            number: 11,
+            value: 0,
+        };
+    }
+    if b > 255 {
+        return Pixel {
+            number: 11,
+            value: 0,
+        };
+    }
+    let c = Color {
+        r: r as u8,
+        g: g as u8,
+        b: b as u8,
+        a: 255,
+    };
+    Pixel {
+        number: 0,
+        value: over(dst, c, a),
+    }
+}

@@ -1,0 +1,91 @@
+// The leaf functions over whole slices, for Rust to call: comparison at scale and speed.
+ghost use mathlib.Core.Path.{_≡_};
+ghost use mathlib.Core.List.{map};
+ghost use lib.Ieee as Ieee;
+ghost use Rattle.mathf.specs.Root.{sqrtOf};
+ghost use Rattle.mathf.specs.Whole.{floorOf, ceilOf};
+ghost use Rattle.color.specs.Inks.{blended};
+ghost use Rattle.leaves.specs.Each.{each};
+
+#[no_mangle]
+pub extern "C" fn leaves_sqrt(xs: &mut [f32])
+    ensures { λ _. ⌜ now (xs .exit) ≡ map sqrtOf (now (xs .entry)) ⌝ }
+{
+    for i in 0..xs.len() {
+        xs[i] = mathf::sqrt(xs[i]);
+    }
+}
+
+#[no_mangle]
+pub extern "C" fn leaves_floor(xs: &mut [f32])
+    ensures { λ _. ⌜ now (xs .exit) ≡ map floorOf (now (xs .entry)) ⌝ }
+{
+    for i in 0..xs.len() {
+        xs[i] = mathf::floor(xs[i]);
+    }
+}
+
+#[no_mangle]
+pub extern "C" fn leaves_ceil(xs: &mut [f32])
+    ensures { λ _. ⌜ now (xs .exit) ≡ map ceilOf (now (xs .entry)) ⌝ }
+{
+    for i in 0..xs.len() {
+        xs[i] = mathf::ceil(xs[i]);
+    }
+}
+
+#[no_mangle]
+pub extern "C" fn leaves_to_u8(xs: &[f32], out: &mut [u8])
+    ensures { λ _. ⌜ now (out .exit) ≡ each (Ieee.toUnsigned 8) (now (xs .entry)) (now (out .entry)) ⌝ }
+{
+    if xs.len() == out.len() {
+        for i in 0..xs.len() {
+            out[i] = mathf::to_u8(xs[i]);
+        }
+    }
+}
+
+#[no_mangle]
+pub extern "C" fn leaves_to_u32(xs: &[f32], out: &mut [u32])
+    ensures { λ _. ⌜ now (out .exit) ≡ each (Ieee.toUnsigned 32) (now (xs .entry)) (now (out .entry)) ⌝ }
+{
+    if xs.len() == out.len() {
+        for i in 0..xs.len() {
+            out[i] = mathf::to_u32(xs[i]);
+        }
+    }
+}
+
+#[no_mangle]
+pub extern "C" fn leaves_to_usize(xs: &[f32], out: &mut [usize])
+    ensures { λ _. ⌜ now (out .exit) ≡ each (Ieee.toUnsigned 64) (now (xs .entry)) (now (out .entry)) ⌝ }
+{
+    if xs.len() == out.len() {
+        for i in 0..xs.len() {
+            out[i] = mathf::to_usize(xs[i]);
+        }
+    }
+}
+
+#[no_mangle]
+pub extern "C" fn leaves_to_i32(xs: &[f32], out: &mut [i32])
+    ensures { λ _. ⌜ now (out .exit) ≡ each (Ieee.toSigned 31) (now (xs .entry)) (now (out .entry)) ⌝ }
+{
+    if xs.len() == out.len() {
+        for i in 0..xs.len() {
+            out[i] = mathf::to_i32(xs[i]);
+        }
+    }
+}
+
+// The colour's inks over a slice, at its own alpha.
+#[no_mangle]
+pub extern "C" fn leaves_blend(px: &mut [u32], r: u8, g: u8, b: u8, a: u8)
+    ensures { λ _. ⌜ now (px .exit) ≡ map (λ p. blended p r g b a) (now (px .entry)) ⌝ }
+{
+    let c = color::Color { r, g, b, a };
+    let alpha = a as u32;
+    for i in 0..px.len() {
+        px[i] = color::over(px[i], c, alpha);
+    }
+}
