@@ -61,36 +61,24 @@ pub fn blend_c(dst: u32, c: Color, cov: u32) -> u32
     over(dst, c, covered(c.a, cov))
 }
 
-// The blend of any three inks. An ink over 255 is refused by 11.
+const REFUSED: Pixel = Pixel {
+    number: 11,
+    value: 0,
+};
+
+// The blend of any three inks. An ink over 255 is refused, whatever the alpha.
 pub fn blend(dst: u32, r: u32, g: u32, b: u32, a: u32) -> Pixel
     ensures { λ p. ⌜ p ≡ blendOf dst r g b a ⌝ }
 {
     if r > 255 {
-        return Pixel {
-            number: 11,
-            value: 0,
-        };
+        return REFUSED;
     }
     if g > 255 {
-        return Pixel {
-            number: 11,
-            value: 0,
-        };
+        return REFUSED;
     }
     if b > 255 {
-        return Pixel {
-            number: 11,
-            value: 0,
-        };
+        return REFUSED;
     }
-    let c = Color {
-        r: r as u8,
-        g: g as u8,
-        b: b as u8,
-        a: 255,
-    };
-    Pixel {
-        number: 0,
-        value: over(dst, c, a),
-    }
+    let value = over(dst, Color::rgb(r as u8, g as u8, b as u8), a);
+    Pixel { number: 0, value }
 }

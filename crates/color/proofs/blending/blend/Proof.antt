@@ -1,7 +1,8 @@
 -- `color::blending::blend` meets its contract. Assumes nothing.
-use borrow.Author.Tests.{le-leb, lt-leb}
-use Rattle.color.specs.Inks.{blendOf}
 use borrow.Author.Needs.{needs}
+use borrow.Author.Tests.{le-leb, lt-leb}
+use native.Mathlib.Omega.{arith}
+use Rattle.color.specs.Inks.{blendOf}
 use Rattle.color.proofs.blending.blend.Statement.{statement}
 use Rattle.color.proofs.blending.blend.Tie as tie
 
@@ -18,14 +19,17 @@ unfolding blendOf
 returns-3 c =
     simp (le-leb _ _ (c .before .before .if1 .left), le-leb _ _ (c .before .if2 .left), lt-leb _ _ (c .if3 .taken))
 
-cast-t8 : tie.Need-cast-t8
-cast-t8 c = search needs
+cast-rgb : tie.Need-cast-rgb
+cast-rgb c = omega arith
 
-cast-t9 : tie.Need-cast-t9
-cast-t9 c = search needs
+cast-rgb-2 : tie.Need-cast-rgb-2
+cast-rgb-2 c = omega arith
 
-cast-t10 : tie.Need-cast-t10
-cast-t10 c = search needs
+cast-rgb-3 : tie.Need-cast-rgb-3
+cast-rgb-3 c = omega arith
+
+rgb-requires : tie.Need-rgb-requires
+rgb-requires c κs = search needs
 
 over-requires : tie.Need-over-requires
 over-requires c κs = search needs
@@ -33,11 +37,20 @@ over-requires c κs = search needs
 returns-4 : tie.Need-returns-4
 unfolding blendOf
 returns-4 c =
-    let tests = c .before in
+    let tests = c .before .before in
     simp
-    (le-leb _ _ (tests .before .before .if1 .left), le-leb _ _ (tests .before .if2 .left), le-leb _ _ (tests .if3 .left), c .over .ensures)
+    (le-leb _ _ (tests .before .before .if1 .left), le-leb _ _ (tests .before .if2 .left), le-leb _ _ (tests .if3 .left), c .over .ensures, c .before .rgb .ensures)
 
 pub blend-spec : {M : Type 1} → statement M
 blend-spec =
     tie.close
-    (tie.spec returns returns-2 returns-3 cast-t8 cast-t9 cast-t10 over-requires returns-4)
+    (tie.spec
+    returns
+    returns-2
+    returns-3
+    cast-rgb
+    cast-rgb-2
+    cast-rgb-3
+    rgb-requires
+    over-requires
+    returns-4)

@@ -1,13 +1,15 @@
 -- `color::blending::mixed` meets its contract: the sum is at most 255 * 255. Assumes nothing.
-use mathlib.Core.Path.{_≡_, _∙_}
+use mathlib.Core.Path.{_∙_}
 use Prim.Native.Nat.{_+_, _*_, _≤_}
 use native.Mathlib.Omega.{arith}
-use Rattle.color.proofs.Near.{mix-le}
+use Rattle.color.proofs.Weights.{weighted-le}
 use Rattle.color.proofs.blending.mixed.Statement.{statement}
 use Rattle.color.proofs.blending.mixed.Tie as tie
 
 bound : (c : tie.Start) → c .args .ink * c .args .a + c .args .old * c .args .left ≤ 65025
-bound c = mix-le (c .args .ink) (c .args .old) (c .args .a) (c .args .left) (c .pre .0) (c .pre .1) (omega arith)
+bound c =
+    let a = c .args in
+    weighted-le 255 255 (a .ink) (a .old) (a .a) (a .left) (omega arith) (c .pre .0) (c .pre .1)
 
 mul-part255 : tie.Need-mul-part255
 mul-part255 c = omega (arith, bound c)

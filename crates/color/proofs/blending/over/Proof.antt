@@ -1,7 +1,7 @@
 -- `color::blending::over` meets its contract. Assumes nothing.
 use borrow.Author.Tests.{eq-eqb, ne-eqb, le-leb, lt-leb}
 use Rattle.color.specs.Inks.{blended}
-use borrow.Author.Needs.{needs}
+use native.Mathlib.Omega.{arith}
 use Rattle.color.proofs.blending.over.Statement.{statement}
 use Rattle.color.proofs.blending.over.Tie as tie
 
@@ -10,53 +10,53 @@ unfolding blended
 returns c = simp (eq-eqb _ _ (c .if1 .taken))
 
 cast-r : tie.Need-cast-r
-cast-r c = search needs
+cast-r c = omega arith
 
 cast-g : tie.Need-cast-g
-cast-g c = search needs
+cast-g c = omega arith
 
 cast-b : tie.Need-cast-b
-cast-b c = search needs
+cast-b c = omega arith
 
 mul-result : tie.Need-mul-result
-mul-result c = search needs
+mul-result c = omega arith
 
 mul-result-2 : tie.Need-mul-result-2
-mul-result-2 c = search needs
+mul-result-2 c = omega arith
 
 add-result : tie.Need-add-result
-add-result c = search needs
+add-result c = omega arith
 
 add-result-2 : tie.Need-add-result-2
-add-result-2 c = search needs
+add-result-2 c = omega arith
 
 returns-2 : tie.Need-returns-2
 unfolding blended
 returns-2 c = simp (ne-eqb _ _ (c .before .before .before .before .if1 .left), le-leb _ _ (c .if2 .taken))
 
 sub-left : tie.Need-sub-left
-sub-left c = search needs
+sub-left c = omega arith
 
 mixed-requires : tie.Need-mixed-requires
-mixed-requires c κs = search needs
+mixed-requires c κs = omega arith
 
 mixed-requires-2 : tie.Need-mixed-requires-2
-mixed-requires-2 c κs = search needs
+mixed-requires-2 c κs = omega arith
 
 mixed-requires-3 : tie.Need-mixed-requires-3
-mixed-requires-3 c κs = search needs
+mixed-requires-3 c κs = omega arith
 
 mul-result-3 : tie.Need-mul-result-3
-mul-result-3 c = search needs
+mul-result-3 c = omega arith
 
 mul-result-4 : tie.Need-mul-result-4
-mul-result-4 c = search needs
+mul-result-4 c = omega arith
 
 add-result-3 : tie.Need-add-result-3
-add-result-3 c = search needs
+add-result-3 c = omega arith
 
 add-result-4 : tie.Need-add-result-4
-add-result-4 c = search needs
+add-result-4 c = omega arith
 
 returns-3 : tie.Need-returns-3
 unfolding blended

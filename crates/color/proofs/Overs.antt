@@ -1,0 +1,21 @@
+-- Laws of `over` and `overC`. Assumes nothing.
+use mathlib.Core.Path.{_≡_, refl}
+use Prim.Native.Nat.{ℕ, _≤_}
+use native.Mathlib.Nat.{mul-zero}
+use borrow.Author.Tests.{le-leb}
+use Rattle.color.specs.declared.Color.{Color}
+use Rattle.color.specs.Inks.{blended, coveredBy, over, overC}
+
+-- no alpha leaves the pixel, and so does no coverage
+pub over-none : (p : ℕ) (c : Color) → over p c 0 ≡ p
+unfolding blended
+over-none p c = refl
+
+pub overC-none : (p : ℕ) (c : Color) → overC p c 0 ≡ p
+unfolding blended coveredBy
+overC-none p c = rw mul-zero
+
+-- a coverage of 255 or more keeps the alpha
+pub overC-full : (p : ℕ) (c : Color) (cov : ℕ) → 255 ≤ cov → overC p c cov ≡ over p c (c .a)
+unfolding coveredBy
+overC-full p c cov h = rw (le-leb 255 cov h)
