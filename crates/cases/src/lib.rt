@@ -1,5 +1,16 @@
-// Stored cases of the oracle: reading them, running them, counting those that differ, and saying so.
-// The bytes hold words of 32 bits, the lowest byte first. The first word is the number of cases.
+// Stored answers of the oracle: reading a case, running it through the proved functions, counting those that differ.
+// The bytes hold words of 32 bits. The first is the number of cases; each case then has its function's number, from 1, its
+// inputs and the Rust's answer, in as many words as its area's cases have.
+pub mod agree;
 pub mod answer;
+pub mod boxes;
 pub mod report;
 pub mod word;
+
+pub use crate::agree::COLOR;
+pub use crate::agree::GEOM;
+pub use crate::agree::MATHF;
+pub use crate::report::buffer;
+pub use crate::report::differing;
+pub use crate::report::line;
+pub use crate::report::total;

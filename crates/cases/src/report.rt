@@ -1,8 +1,8 @@
 // Counting a function's stored cases and those that differ, and printing both.
-use crate::answer;
-use crate::word;
-use crate::word::float_of;
-ghost use Prim.Native.Nat.{_^_, _<_, _≤_};
+use crate::agree::agrees;
+use crate::agree::width;
+use crate::word::word;
+ghost use Prim.Native.Nat.{_≤_};
 ghost use mathlib.Core.Path.{_≡_};
 ghost use lib.ListN.{length};
 
@@ -13,9 +13,9 @@ pub fn buffer() -> [u8; 400000]
     [0; 400000]
 }
 
-pub struct Tally {
-    pub ran: u32,
-    pub differ: u32,
+struct Tally {
+    ran: u32,
+    differ: u32,
 }
 
 fn one(b: bool) -> u32
@@ -24,42 +24,18 @@ fn one(b: bool) -> u32
     if b { 1 } else { 0 }
 }
 
-// A case of mathf: the function's number, three floats, and the answer's low and high word.
-fn mathf_agrees(bytes: &[u8], at: u32) -> bool
-    requires { ⌜ at < 2 ^ 31 ⌝ }
-{
-    let a = float_of(word::word(bytes, at + 1));
-    let b = float_of(word::word(bytes, at + 2));
-    let c = float_of(word::word(bytes, at + 3));
-    let want = word::pair(word::word(bytes, at + 4), word::word(bytes, at + 5));
-    answer::mathf(word::word(bytes, at), a, b, c) == want
-}
-
-// How many words a case of an area has.
-fn width(area: u32) -> u32
-    ensures { λ r. ⌜ r ≤ 16 ⌝ }
-{
-    6
-}
-
-fn agrees(area: u32, bytes: &[u8], at: u32) -> bool
-    requires { ⌜ at < 2 ^ 31 ⌝ }
-{
-    mathf_agrees(bytes, at)
-}
-
 // Every function of an area.
 const ALL: u32 = 0xffff_ffff;
 
 // The cases of function f, and those of them whose answer is another than the stored one.
 fn count(bytes: &[u8], area: u32, f: u32) -> Tally {
-    let n = word::word(bytes, 0) % 65536;
+    let n = word(bytes, 0) % 65536;
     let w = width(area);
     let mut ran: u32 = 0;
     let mut differ: u32 = 0;
     let mut at: u32 = 1;
     for i in 0..n {
-        let here = (f == ALL) | (word::word(bytes, at) == f);
+        let here = (f == ALL) | (word(bytes, at) == f);
         ran += one(here);
         differ += one(here & !agrees(area, bytes, at));
         at += w;
@@ -85,4 +61,9 @@ pub fn line(bytes: &[u8], area: u32, f: u32, name: &[u8]) {
 // Prints the count of a whole area.
 pub fn total(bytes: &[u8], area: u32) {
     line(bytes, area, ALL, b"total");
+}
+
+// How many cases of an area differ.
+pub fn differing(bytes: &[u8], area: u32) -> u32 {
+    count(bytes, area, ALL).differ
 }

@@ -64,13 +64,13 @@ module _ {ℓ ℓ′} {A : Type ℓ} {B : Type ℓ′} (f : A → B) where
 
   pub again : {xs : List A} {old out : List B} {n i : ℕ} {v : B} (d : A) → Turning f xs old n out i → i < n → v ≡ f (getD xs i d) → Turning f xs old n (set out i v) (i + 1)
   again {xs} {old} {out} {n} {i} {v} d t h e =
-      record
-        { within = omega arith
-        ; full = t .full
-        ; room = t .room
-        ; long = simp length-set (t .long)
-        ; so = rw (t .so, e) (turned-more f i xs old d (omega (arith, t .full)))
-        }
+      record {
+        within = omega arith;
+        full = t .full;
+        room = t .room;
+        long = simp length-set (t .long);
+        so = rw (t .so, e) (turned-more f i xs old d (omega (arith, t .full)));
+      }
 
   pub done : {xs : List A} {old out : List B} {n i : ℕ} → Turning f xs old n out i → n ≤ i → out ≡ map f xs
   done {xs} {old} {out} {n} {i} t h =

@@ -89,3 +89,9 @@ pub extern "C" fn leaves_blend(px: &mut [u32], r: u8, g: u8, b: u8, a: u8)
         px[i] = color::over(px[i], c, alpha);
     }
 }
+
+// How many of the cases of an area differ, in the form in which they are stored.
+#[no_mangle]
+pub extern "C" fn leaves_differing(bytes: &[u8], area: u32) -> u32 {
+    cases::differing(bytes, area)
+}

@@ -1,8 +1,8 @@
 // Replays the stored answers of the Rust for mathf: how many cases of each function ran, and how many differ.
-use cases::report::MATHF;
-use cases::report::buffer;
-use cases::report::line;
-use cases::report::total;
+use cases::MATHF;
+use cases::buffer;
+use cases::line;
+use cases::total;
 
 fn whole(bytes: &[u8]) {
     line(bytes, MATHF, 1, b"sqrt");

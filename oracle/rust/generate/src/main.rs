@@ -1,6 +1,8 @@
 //! Writes what the replay programs read and must print: crates/replay_*/stdin and stdout below the folder given.
 use std::{env, fs, path::Path};
 
+mod color;
+mod geom;
 mod mathf;
 
 /// Cases of one area, in the order of its functions: each is a function's number, its inputs and the Rust's answer.
@@ -34,4 +36,6 @@ fn main() {
     let crates = env::args().nth(1).expect("the folder crates of the repository");
     let folder = |name: &str| Path::new(&crates).join(name);
     mathf::stored().write(&folder("replay_mathf"));
+    color::stored().write(&folder("replay_color"));
+    geom::stored().write(&folder("replay_geom"));
 }

@@ -1,0 +1,105 @@
+// Whether a stored case has the answer of the proved functions, in each area.
+use crate::answer;
+use crate::boxes;
+use crate::boxes::Four;
+use crate::word::float_of;
+use crate::word::int_of;
+use crate::word::pair;
+use crate::word::word;
+use geom::IRect;
+use geom::Rect;
+ghost use Prim.Native.Nat.{_^_, _<_, _≤_};
+
+pub const MATHF: u32 = 0;
+
+pub const COLOR: u32 = 1;
+
+pub const GEOM: u32 = 2;
+
+// How many words a case of an area has.
+pub fn width(area: u32) -> u32
+    ensures { λ r. ⌜ r ≤ 16 ⌝ }
+{
+    match area {
+        0 => 6,
+        1 => 8,
+        _ => 13,
+    }
+}
+
+// Three floats, and the answer's low and high word.
+fn mathf(bytes: &[u8], at: u32) -> bool
+    requires { ⌜ at < 2 ^ 31 ⌝ }
+{
+    let a = float_of(word(bytes, at + 1));
+    let b = float_of(word(bytes, at + 2));
+    let c = float_of(word(bytes, at + 3));
+    let r = answer::mathf(word(bytes, at), a, b, c);
+    r == pair(word(bytes, at + 4), word(bytes, at + 5))
+}
+
+// Five words, and the answer's low and high word.
+fn color(bytes: &[u8], at: u32) -> bool
+    requires { ⌜ at < 2 ^ 31 ⌝ }
+{
+    let a = word(bytes, at + 1);
+    let b = word(bytes, at + 2);
+    let c = word(bytes, at + 3);
+    let d = word(bytes, at + 4);
+    let e = word(bytes, at + 5);
+    let r = answer::color(word(bytes, at), a, b, c, d, e);
+    r == pair(word(bytes, at + 6), word(bytes, at + 7))
+}
+
+fn rect(bytes: &[u8], at: u32) -> Rect
+    requires { ⌜ at < 2 ^ 31 ⌝ }
+{
+    let x = float_of(word(bytes, at));
+    let y = float_of(word(bytes, at + 1));
+    let w = float_of(word(bytes, at + 2));
+    let h = float_of(word(bytes, at + 3));
+    Rect::new(x, y, w, h)
+}
+
+fn irect(bytes: &[u8], at: u32) -> IRect
+    requires { ⌜ at < 2 ^ 31 ⌝ }
+{
+    let x0 = int_of(word(bytes, at));
+    let y0 = int_of(word(bytes, at + 1));
+    let x1 = int_of(word(bytes, at + 2));
+    let y1 = int_of(word(bytes, at + 3));
+    IRect::new(x0, y0, x1, y1)
+}
+
+fn geom_answer(f: u32, bytes: &[u8], at: u32) -> Four
+    requires { ⌜ at < 2 ^ 30 ⌝ }
+{
+    if f <= 10 {
+        boxes::rect(f, rect(bytes, at), rect(bytes, at + 4))
+    } else {
+        boxes::irect(f, irect(bytes, at), irect(bytes, at + 4))
+    }
+}
+
+// Two rectangles or two boxes, and the answer's four words.
+fn geom(bytes: &[u8], at: u32) -> bool
+    requires { ⌜ at < 2 ^ 29 ⌝ }
+{
+    let r = geom_answer(word(bytes, at), bytes, at + 1);
+    let left = (r.a == word(bytes, at + 9)) & (r.b == word(bytes, at + 10));
+    left & (r.c == word(bytes, at + 11)) & (r.d == word(bytes, at + 12))
+}
+
+// A case past the end of the bytes, which reads as zeros, agrees with nothing.
+pub fn agrees(area: u32, bytes: &[u8], at: u32) -> bool
+    requires { ⌜ at < 2 ^ 29 ⌝ }
+{
+    if word(bytes, at) == 0 {
+        return false;
+    }
+    match area {
+        0 => mathf(bytes, at),
+        1 => color(bytes, at),
+        _ => geom(bytes, at),
+    }
+}
