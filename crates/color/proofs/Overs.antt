@@ -2,15 +2,23 @@
 use mathlib.Core.Path.{_≡_, refl}
 use Prim.Native.Nat.{ℕ, _≤_}
 use native.Mathlib.Nat.{mul-zero}
-use borrow.Author.Tests.{le-leb}
+use native.Mathlib.Omega.{arith}
+use borrow.Author.Tests.{le-leb, ne-eqb}
 use Rattle.color.specs.declared.Color.{Color}
 use Rattle.color.specs.Inks.{blended, coveredBy, over, overC}
+use Rattle.color.specs.Colours.{pixOf}
 
--- no alpha leaves the pixel, and so does no coverage
+-- no alpha leaves the pixel
 pub over-none : (p : ℕ) (c : Color) → over p c 0 ≡ p
 unfolding blended
 over-none p c = refl
 
+-- an alpha of 255 or more is the plain colour
+pub over-full : (p : ℕ) (c : Color) (a : ℕ) → 255 ≤ a → over p c a ≡ pixOf c
+unfolding blended
+over-full p c a h = rw (ne-eqb a 0 (λ e. omega arith), le-leb 255 a h)
+
+-- no coverage leaves the pixel
 pub overC-none : (p : ℕ) (c : Color) → overC p c 0 ≡ p
 unfolding blended coveredBy
 overC-none p c = rw mul-zero

@@ -1,6 +1,6 @@
 -- Two channels a multiply: a mix of 256 parts takes 16 binary places, so two channels 16 places apart do not meet. Assumes nothing.
 use mathlib.Core.Path.{_≡_}
-use Prim.Native.Nat.{ℕ, _+_, _-_, _*_, _/_, _≤_, _<_}
+use Prim.Native.Nat.{ℕ, _+_, _-_, _*_, _≤_, _<_}
 use native.Mathlib.Nat.{add-mul, mul-right-comm}
 use native.Mathlib.Omega.{arith}
 use Rattle.color.proofs.Weights.{weighted-le}
@@ -31,12 +31,12 @@ module _ (a b t : ℕ) (h : t ≤ 256) where
   mixed-fits = omega (arith, reds, greens, blues)
 
   pub red-blue-mixed :
-      let n = ((red a * 65536 + blue a) * (256 - t) + (red b * 65536 + blue b) * t) / 256 in
+      let n = mixed256 (red a * 65536 + blue a) (red b * 65536 + blue b) t in
       red n * 65536 + blue n ≡ mixed256 (red a) (red b) t * 65536 + mixed256 (blue a) (blue b) t
   red-blue-mixed = omega (arith, spread (red a) (blue a) (red b) (blue b) (256 - t) t, reds, blues)
 
-  green-spread : (green a * 256 * (256 - t) + green b * 256 * t) / 256 ≡ green a * (256 - t) + green b * t
+  green-spread : mixed256 (green a * 256) (green b * 256) t ≡ green a * (256 - t) + green b * t
   green-spread = omega (arith, mul-right-comm (green a) 256 (256 - t), mul-right-comm (green b) 256 t)
 
-  pub green-mixed : green ((green a * 256 * (256 - t) + green b * 256 * t) / 256) * 256 ≡ mixed256 (green a) (green b) t * 256
+  pub green-mixed : green (mixed256 (green a * 256) (green b * 256) t) * 256 ≡ mixed256 (green a) (green b) t * 256
   green-mixed = rw green-spread (omega (arith, greens))

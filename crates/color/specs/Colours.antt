@@ -3,10 +3,11 @@ use Prim.Native.Nat.{ℕ, _+_, _-_, _*_, _/_, min}
 use mathlib.Core.Bool.{cond}
 use lib.Dec.{eqb}
 use lib.IntN.{ℤ, pos, negsuc}
-use lib.Ieee.{Float, binary32, ofBits, toUnsigned, toSigned}
+use lib.Ieee.{Float, binary32, ofBits}
 use Rattle.mathf.specs.F32.{_+ᶠ_, _-ᶠ_, _*ᶠ_, _/ᶠ_, _%ᶠ_, ofℕᶠ, f½, f1, f60, f255, f360}
 use Rattle.mathf.specs.Order.{saturateOf}
 use Rattle.mathf.specs.Whole.{floorOf}
+use Rattle.mathf.specs.Convert.{toU8, toI32}
 use Rattle.color.specs.declared.Color.{Color}
 use Rattle.color.specs.Inks.{red, green, blue, packed}
 
@@ -27,18 +28,18 @@ pixOf c = packed (c .r) (c .g) (c .b)
 
 -- a part from 0 to 1 as a byte, rounded
 abbrev pub byteOf : Float → ℕ
-byteOf x = toUnsigned 8 (x *ᶠ f255 +ᶠ f½)
+byteOf x = toU8 (x *ᶠ f255 +ᶠ f½)
 
 -- alpha times f, and alpha as a part of 1
 abbrev pub fadeOf : Color → Float → Color
-fadeOf c f = rgbaOf (c .r) (c .g) (c .b) (toUnsigned 8 (ofℕᶠ (c .a) *ᶠ saturateOf f +ᶠ f½))
+fadeOf c f = rgbaOf (c .r) (c .g) (c .b) (toU8 (ofℕᶠ (c .a) *ᶠ saturateOf f +ᶠ f½))
 
 abbrev pub alphaOf : Color → Float → Color
 alphaOf c a = rgbaOf (c .r) (c .g) (c .b) (byteOf (saturateOf a))
 
 -- one byte of a mix of two colours, and the mix
 abbrev pub between : ℕ → ℕ → Float → ℕ
-between a b t = toUnsigned 8 (ofℕᶠ a +ᶠ (ofℕᶠ b -ᶠ ofℕᶠ a) *ᶠ t +ᶠ f½)
+between a b t = toU8 (ofℕᶠ a +ᶠ (ofℕᶠ b -ᶠ ofℕᶠ a) *ᶠ t +ᶠ f½)
 
 unfoldable pub mixOf : Color → Color → Float → Color
 mixOf c o x =
@@ -87,4 +88,4 @@ hsvOf x s v =
     let p = v *ᶠ (f1 -ᶠ s) in
     let q = v *ᶠ (f1 -ᶠ s *ᶠ f) in
     let t = v *ᶠ (f1 -ᶠ s *ᶠ (f1 -ᶠ f)) in
-    sectorOf (toSigned 31 i) v p q t
+    sectorOf (toI32 i) v p q t

@@ -25,19 +25,27 @@ fn only_green(p: u32) -> u32
     p / 256 % 256 * 256
 }
 
-// Two channels a multiply: they lie 16 places apart, and a mix of 256 parts fits into 16.
+// 256 parts of two numbers, t of them the second's.
+fn parts(x: u32, y: u32, t: u32) -> u32
+    requires { ⌜ (x ≤ 0x00ff_00ff) × (y ≤ 0x00ff_00ff) × (t ≤ 256) ⌝ }
+    ensures { λ r. ⌜ r ≡ mixed256 x y t ⌝ }
+{
+    (x * (256 - t) + y * t) / 256
+}
+
+// Two channels a multiply: they lie 16 places apart, and 256 parts of a channel fit into 16.
 fn mix_red_blue(a: u32, b: u32, t: u32) -> u32
     requires { ⌜ t ≤ 256 ⌝ }
     ensures { λ r. ⌜ r ≡ mixed256 (red a) (red b) t * 65536 + mixed256 (blue a) (blue b) t ⌝ }
 {
-    red_blue((red_blue(a) * (256 - t) + red_blue(b) * t) / 256)
+    red_blue(parts(red_blue(a), red_blue(b), t))
 }
 
 fn mix_green(a: u32, b: u32, t: u32) -> u32
     requires { ⌜ t ≤ 256 ⌝ }
     ensures { λ r. ⌜ r ≡ mixed256 (green a) (green b) t * 256 ⌝ }
 {
-    only_green((only_green(a) * (256 - t) + only_green(b) * t) / 256)
+    only_green(parts(only_green(a), only_green(b), t))
 }
 
 // Two pixels mixed, t256 of 256 parts the second.

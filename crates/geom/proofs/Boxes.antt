@@ -1,15 +1,18 @@
--- The laws of boxes: a pixel is in a cut where it is in both, and `hull` is the smallest box around its list.
--- Assumes nothing.
+-- The laws of boxes: a pixel is in a cut where it is in both boxes, a cut that is not empty lies within both, and `hull` is the smallest box
+-- around its list. Assumes nothing.
 use mathlib.Core.Bool.{Bool, true, false, cond, _&&_, _||_}
 use mathlib.Core.List.{List, [], _∷_}
+use mathlib.Core.Logic.{_⊎_, inl, inr}
+use Prim.Native.Nat.{ℕ, _<_, _≤_}
+use lib.Dec.{leb, ltb}
 use mathlib.Core.Path.{_≡_, refl, sym, _∙_}
-use lib.IntN.{ℤ, predℤ}
+use lib.IntN.{ℤ, pos, predℤ}
 use lib.Signed.{leZ, ltZ}
 use Rattle.geom.specs.declared.IRect.{IRect}
-use Rattle.geom.specs.Int.{maxZ, minZ}
-use Rattle.geom.proofs.Int.{orderZ, pred-down, max-left, max-right, max-by, min-left, min-right, min-by}
-use Rattle.geom.proofs.Bools.{and-left, and-right, and-both, or-false, same-test}
-use Rattle.geom.specs.Box.{inside, meet, empty, noBox, around, join, hull, Holds, inAny, HoldsEach, Smallest}
+use Rattle.geom.specs.Int.{up, maxZ, minZ}
+use Rattle.geom.proofs.Int.{orderZ, pred-down, down-none, le-up, lt-up, max-left, max-right, max-by, min-left, min-right, min-by}
+use Rattle.geom.proofs.Bools.{and-left, and-right, and-both, or-false, same-test, split}
+use Rattle.geom.specs.Box.{boxOf, inside, meet, empty, noBox, around, join, hull, Holds, inAny, HoldsEach, Smallest}
 
 -- ---- a pixel inside
 
@@ -33,6 +36,28 @@ in-of b x y e =
 pub inside-of : (b : IRect) (x y : ℤ) → In b x y → inside b x y ≡ true
 unfolding inside
 inside-of b x y i = and-both (and-both (i .left) (i .right)) (and-both (i .top) (i .bottom))
+
+-- the pixel in column x and row y, by tests of naturals
+pub in-pixel : (b : IRect) (x y : ℕ) →
+    inside b (pos x) (pos y) ≡ (leb (up (b .x0)) x && ltb x (up (b .x1))) && (leb (up (b .y0)) y && ltb y (up (b .y1)))
+unfolding inside
+in-pixel b x y = rw (le-up (b .x0) x, lt-up x (b .x1), le-up (b .y0) y, lt-up y (b .y1))
+
+-- an empty box has no pixel
+pub in-empty : (b : IRect) (x y : ℤ) → empty b ≡ true → inside b x y ≡ false
+unfolding empty
+in-empty b x y e = same-test (inside b x y) false there (λ z. cc)
+  where
+    there : inside b x y ≡ true → false ≡ true
+    there k =
+        let i = in-of b x y k in
+        let f : leZ (b .x1) (b .x0) ≡ false = omega orderZ in
+        let g : leZ (b .y1) (b .y0) ≡ false = omega orderZ in
+        rw (f, g) at e
+
+pub in-noBox : (x y : ℤ) → inside noBox x y ≡ false
+unfolding noBox empty
+in-noBox x y = in-empty noBox x y refl
 
 -- ---- the cut of two boxes
 
@@ -62,9 +87,7 @@ in-meet a b x y = same-test (inside (meet a b) x y) (inside a x y && inside b x 
         let i = in-of (meet a b) x y e in
         let h = range-both x (a .x0) (b .x0) (a .x1) (b .x1) (i .left) (i .right) in
         let v = range-both y (a .y0) (b .y0) (a .y1) (b .y1) (i .top) (i .bottom) in
-        and-both
-        (inside-of a x y (record { left = h .0; right = h .2; top = v .0; bottom = v .2 }))
-        (inside-of b x y (record { left = h .1; right = h .3; top = v .1; bottom = v .3 }))
+        and-both (inside-of a x y (omega orderZ)) (inside-of b x y (omega orderZ))
 
     back : inside a x y && inside b x y ≡ true → inside (meet a b) x y ≡ true
     back e =
@@ -72,25 +95,18 @@ in-meet a b x y = same-test (inside (meet a b) x y) (inside a x y && inside b x 
         let j = in-of b x y (and-right (inside a x y) (inside b x y) e) in
         let h = range-cut x (a .x0) (b .x0) (a .x1) (b .x1) (i .left) (j .left) (i .right) (j .right) in
         let v = range-cut y (a .y0) (b .y0) (a .y1) (b .y1) (i .top) (j .top) (i .bottom) (j .bottom) in
-        inside-of (meet a b) x y (record { left = h .0; right = h .1; top = v .0; bottom = v .1 })
+        inside-of (meet a b) x y (omega orderZ)
 
--- ---- the smallest box
+-- ---- a box that is not empty
 
--- an empty box has no pixel
-pub in-empty : (b : IRect) (x y : ℤ) → empty b ≡ true → inside b x y ≡ false
-unfolding empty
-in-empty b x y e = same-test (inside b x y) false there (λ z. cc)
-  where
-    there : inside b x y ≡ true → false ≡ true
-    there k =
-        let i = in-of b x y k in
-        let f : leZ (b .x1) (b .x0) ≡ false = omega orderZ in
-        let g : leZ (b .y1) (b .y0) ≡ false = omega orderZ in
-        rw (f, g) at e
-
-pub in-noBox : (x y : ℤ) → inside noBox x y ≡ false
-unfolding noBox empty
-in-noBox x y = in-empty noBox x y refl
+-- a box that is not empty, and lies in `big` with all its edges
+pub record Within (big small : IRect) : Type 0 where
+  pub left : leZ (big .x0) (small .x0) ≡ true
+  pub wide : ltZ (small .x0) (small .x1) ≡ true
+  pub right : leZ (small .x1) (big .x1) ≡ true
+  pub top : leZ (big .y0) (small .y0) ≡ true
+  pub tall : ltZ (small .y0) (small .y1) ≡ true
+  pub bottom : leZ (small .y1) (big .y1) ≡ true
 
 -- a box that is not empty has its corners: the first pixel, and the last
 module _ (b : IRect) (full : empty b ≡ false) where
@@ -110,60 +126,112 @@ module _ (b : IRect) (full : empty b ≡ false) where
       let w = wide in
       inside-of b (predℤ (b .x1)) (predℤ (b .y1)) (omega (orderZ, pred-down (b .x1), pred-down (b .y1)))
 
-  -- a box that holds another that is not empty has its edges
-  pub record Edges (big : IRect) : Type 0 where
-    pub left : leZ (big .x0) (b .x0) ≡ true
-    pub right : leZ (b .x1) (big .x1) ≡ true
-    pub top : leZ (big .y0) (b .y0) ≡ true
-    pub bottom : leZ (b .y1) (big .y1) ≡ true
-
-  pub edges : (big : IRect) → Holds big b → Edges big
+  -- a box that holds this one has its edges
+  pub edges : (big : IRect) → Holds big b → Within big b
   edges big h =
+      let w = wide in
       let i = in-of big (b .x0) (b .y0) (h .holds (b .x0) (b .y0) first-in) in
       let j = in-of big (predℤ (b .x1)) (predℤ (b .y1)) (h .holds (predℤ (b .x1)) (predℤ (b .y1)) last-in) in
       omega (orderZ, pred-down (b .x1), pred-down (b .y1))
 
-in-around : (a b : IRect) (x y : ℤ) → inside a x y ≡ true → inside (around a b) x y ≡ true
-unfolding around
-in-around a b x y e =
-    let i = in-of a x y e in
-    inside-of (around a b) x y
-    (omega (orderZ, min-left (a .x0) (b .x0), min-left (a .y0) (b .y0), max-left (a .x1) (b .x1), max-left (a .y1) (b .y1)))
+-- a box that holds one that is not empty is not empty
+pub holds-full : (big small : IRect) → Holds big small → empty small ≡ false → empty big ≡ false
+holds-full big small h e = split (empty big) (λ t. t ≡ false) there (λ f. refl)
+  where
+    there : empty big ≡ true → true ≡ false
+    there f = sym (h .holds (small .x0) (small .y0) (first-in small e)) ∙ in-empty big (small .x0) (small .y0) f
 
-in-around-right : (a b : IRect) (x y : ℤ) → inside b x y ≡ true → inside (around a b) x y ≡ true
+-- ---- what a cut leaves
+
+pub meet-left : (a b : IRect) → Holds a (meet a b)
+meet-left a b = record { holds = λ x y e. and-left (inside a x y) (inside b x y) (sym (in-meet a b x y) ∙ e) }
+
+pub meet-right : (a b : IRect) → Holds b (meet a b)
+meet-right a b = record { holds = λ x y e. and-right (inside a x y) (inside b x y) (sym (in-meet a b x y) ∙ e) }
+
+-- where it is not empty, it lies within both
+pub cut-in : (a b : IRect) → empty (meet a b) ≡ false → Within a (meet a b) × Within b (meet a b)
+cut-in a b e = (edges (meet a b) e a (meet-left a b), edges (meet a b) e b (meet-right a b))
+
+pub meet-empty : (a b : IRect) → empty a ≡ true → empty (meet a b) ≡ true
+meet-empty a b e =
+    split (empty (meet a b)) (λ t. t ≡ true) (λ f. refl) (λ f. sym (holds-full a (meet a b) (meet-left a b) f) ∙ e)
+
+-- a box that is empty or lies within `frame` is so when it is cut
+pub meet-within : (frame a b : IRect) → (empty a ≡ true) ⊎ Within frame a → (empty (meet a b) ≡ true) ⊎ Within frame (meet a b)
+meet-within frame a b (inl e) = inl (meet-empty a b e)
+meet-within frame a b (inr w) =
+    split (empty (meet a b)) (λ t. (t ≡ true) ⊎ Within frame (meet a b)) (λ e. inl refl)
+    (λ e. let l = cut-in a b e .0 in inr (omega orderZ))
+
+-- a box within the first w columns and h rows, by naturals
+pub within-nat : (w h : ℕ) (b : IRect) → Within (boxOf (pos 0) (pos 0) (pos w) (pos h)) b
+    → (up (b .x0) < up (b .x1)) × (up (b .x1) ≤ w) × (up (b .y0) < up (b .y1)) × (up (b .y1) ≤ h)
+within-nat w h b i =
+    let p = down-none (b .x0) (i .left) in
+    let q = down-none (b .y0) (i .top) in
+    let r = down-none (b .x1) (omega orderZ) in
+    let s = down-none (b .y1) (omega orderZ) in
+    omega orderZ
+
+-- ---- the smallest box
+
+holds-self : (b : IRect) → Holds b b
+holds-self b = record { holds = λ x y e. e }
+
+holds-trans : {a b c : IRect} → Holds a b → Holds b c → Holds a c
+holds-trans h k = record { holds = λ x y e. h .holds x y (k .holds x y e) }
+
+pub holds-empty : (big small : IRect) → empty small ≡ true → Holds big small
+holds-empty big small e = record { holds = λ x y i. let o = in-empty small x y e in cc }
+
+around-left : (a b : IRect) → Holds (around a b) a
 unfolding around
-in-around-right a b x y e =
-    let i = in-of b x y e in
-    inside-of (around a b) x y
-    (omega (orderZ, min-right (a .x0) (b .x0), min-right (a .y0) (b .y0), max-right (a .x1) (b .x1), max-right (a .y1) (b .y1)))
+around-left a b = record { holds = within }
+  where
+    within : (x y : ℤ) → inside a x y ≡ true → inside (around a b) x y ≡ true
+    within x y e =
+        let i = in-of a x y e in
+        inside-of (around a b) x y
+        (omega (orderZ, min-left (a .x0) (b .x0), min-left (a .y0) (b .y0), max-left (a .x1) (b .x1), max-left (a .y1) (b .y1)))
+
+around-right : (a b : IRect) → Holds (around a b) b
+unfolding around
+around-right a b = record { holds = within }
+  where
+    within : (x y : ℤ) → inside b x y ≡ true → inside (around a b) x y ≡ true
+    within x y e =
+        let i = in-of b x y e in
+        inside-of (around a b) x y
+        (omega (orderZ, min-right (a .x0) (b .x0), min-right (a .y0) (b .y0), max-right (a .x1) (b .x1), max-right (a .y1) (b .y1)))
 
 pub join-left : (a b : IRect) → Holds (join a b) a
 unfolding join
-join-left a b = record { holds = λ x y e. go (empty a) (empty b) refl x y e }
+join-left a b = go (empty a) (empty b) refl
   where
-    go : (s t : Bool) → empty a ≡ s → (x y : ℤ) → inside a x y ≡ true → inside (cond s b (cond t a (around a b))) x y ≡ true
-    go true t p x y e = let f = in-empty a x y p in cc
-    go false true p x y e = e
-    go false false p x y e = in-around a b x y e
+    go : (s t : Bool) → empty a ≡ s → Holds (cond s b (cond t a (around a b))) a
+    go true t p = holds-empty b a p
+    go false true p = holds-self a
+    go false false p = around-left a b
 
 pub join-right : (a b : IRect) → Holds (join a b) b
 unfolding join
-join-right a b = record { holds = λ x y e. go (empty a) (empty b) refl x y e }
+join-right a b = go (empty a) (empty b) refl
   where
-    go : (s t : Bool) → empty b ≡ t → (x y : ℤ) → inside b x y ≡ true → inside (cond s b (cond t a (around a b))) x y ≡ true
-    go true t p x y e = e
-    go false true p x y e = let f = in-empty b x y p in cc
-    go false false p x y e = in-around-right a b x y e
+    go : (s t : Bool) → empty b ≡ t → Holds (cond s b (cond t a (around a b))) b
+    go true t p = holds-self b
+    go false true p = holds-empty a b p
+    go false false p = around-right a b
 
 -- a box that holds two that are not empty holds the box around them
 holds-around : (big a b : IRect) → empty a ≡ false → empty b ≡ false → Holds big a → Holds big b → Holds big (around a b)
 unfolding around
 holds-around big a b p q h k = record { holds = within }
   where
-    e : Edges a p big
+    e : Within big a
     e = edges a p big h
 
-    f : Edges b q big
+    f : Within big b
     f = edges b q big k
 
     l : leZ (big .x0) (minZ (a .x0) (b .x0)) ≡ true
@@ -190,9 +258,6 @@ holds-join big a b h k = go (empty a) (empty b) refl refl
     go false true p q = h
     go false false p q = holds-around big a b p q h k
 
-pub empty-around : (a b : IRect) → empty a ≡ false → empty b ≡ false → empty (around a b) ≡ false
-empty-around a b p q = same-test (empty (around a b)) false (λ e. let f = in-empty (around a b) (a .x0) (a .y0) e in let g = in-around a b (a .x0) (a .y0) (first-in a p) in cc) (λ z. cc)
-
 pub empty-join : (a b : IRect) → empty (join a b) ≡ true → join a b ≡ b
 unfolding join
 empty-join a b = go (empty a) (empty b) refl refl
@@ -200,10 +265,7 @@ empty-join a b = go (empty a) (empty b) refl refl
     go : (s t : Bool) → empty a ≡ s → empty b ≡ t → empty (cond s b (cond t a (around a b))) ≡ true → cond s b (cond t a (around a b)) ≡ b
     go true t p q e = refl
     go false true p q e = let z : true ≡ false = cc in cc
-    go false false p q e = let z = empty-around a b p q in let y : true ≡ false = cc in cc
-
-holds-trans : {a b c : IRect} → Holds a b → Holds b c → Holds a c
-holds-trans h k = record { holds = λ x y e. h .holds x y (k .holds x y e) }
+    go false false p q e = let f = holds-full (around a b) a (around-left a b) p in let z : true ≡ false = cc in cc
 
 each-wider : (wide narrow frame : IRect) (bs : List IRect) → Holds wide narrow → HoldsEach narrow frame bs → HoldsEach wide frame bs
 unfolding HoldsEach
@@ -218,8 +280,8 @@ hull-around frame (b ∷ bs) =
     (join-left (meet frame b) (hull frame bs), each-wider _ _ frame bs j (hull-around frame bs))
 
 pub hull-least : (frame : IRect) (bs : List IRect) (big : IRect) → HoldsEach big frame bs → Holds big (hull frame bs)
-unfolding hull HoldsEach
-hull-least frame [] big h = record { holds = λ x y e. let f = in-noBox x y in let z : true ≡ false = cc in cc }
+unfolding hull HoldsEach noBox empty
+hull-least frame [] big h = holds-empty big noBox refl
 hull-least frame (b ∷ bs) big h = holds-join big (meet frame b) (hull frame bs) (h .0) (hull-least frame bs big (h .1))
 
 pub hull-none : (frame : IRect) (bs : List IRect) → empty (hull frame bs) ≡ true → hull frame bs ≡ noBox
@@ -248,8 +310,7 @@ held-any big frame (b ∷ bs) h x y f e = go (inside b x y) refl e (held-any big
 each-in-frame : (frame : IRect) (bs : List IRect) → HoldsEach frame frame bs
 unfolding HoldsEach
 each-in-frame frame [] = tt
-each-in-frame frame (b ∷ bs) =
-    (record { holds = λ x y e. and-left (inside frame x y) (inside b x y) (sym (in-meet frame b x y) ∙ e) }, each-in-frame frame bs)
+each-in-frame frame (b ∷ bs) = (meet-left frame b, each-in-frame frame bs)
 
 pub hull-in-frame : (frame : IRect) (bs : List IRect) → Holds frame (hull frame bs)
 hull-in-frame frame bs = hull-least frame bs frame (each-in-frame frame bs)

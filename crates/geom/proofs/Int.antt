@@ -1,13 +1,15 @@
 -- The order of ℤ, read by `omega`. An integer z is `up z` less `down z`, so an order of integers is an order of sums of
 -- naturals: list `orderZ` in a call of `omega`, and it reads and proves the tests `leZ` and `ltZ`. Assumes nothing.
-use mathlib.Core.Bool.{Bool, true, false, cond}
-use mathlib.Core.Path.{_≡_, refl}
+use mathlib.Core.Bool.{true, false, cond, true≢false}
+use mathlib.Core.Path.{_≡_, refl, sym}
 use Prim.Native.Nat.{ℕ, zero, suc, _+_, _≤_, _<_}
 use native.Mathlib.Omega.{arith}
 use lib.IntN.{ℤ, pos, negsuc, predℤ}
 use lib.Signed.{leZ, ltZ}
+use lib.Dec.{leb, ltb}
 use borrow.Author.Tests.{leb-true, leb-false, ltb-true, ltb-false, le-leb, lt-leb, lt-ltb, le-ltb}
 use Rattle.geom.specs.Int.{up, down, maxZ, minZ}
+use Rattle.geom.proofs.Bools.{split}
 
 pub leZ-true : (a b : ℤ) → leZ a b ≡ true → up a + down b ≤ up b + down a
 leZ-true (pos a) (pos b) e = omega (arith, leb-true a b e)
@@ -57,60 +59,56 @@ le-ltZ (pos a) (negsuc b) h = refl
 le-ltZ (negsuc a) (pos b) h = absurd (omega arith)
 le-ltZ (negsuc a) (negsuc b) h = le-ltb b a (omega arith)
 
+pub ruleset orderZ = (arith, leZ-true, leZ-false, ltZ-true, ltZ-false, le-leZ, lt-leZ, lt-ltZ, le-ltZ)
+
 -- one less
 pub pred-down : (a : ℤ) → up (predℤ a) + down a + 1 ≡ up a + down (predℤ a)
 pred-down (pos zero) = refl
 pred-down (pos (suc n)) = omega arith
 pred-down (negsuc n) = omega arith
 
-pub ruleset orderZ = (arith, leZ-true, leZ-false, ltZ-true, ltZ-false, le-leZ, lt-leZ, lt-ltZ, le-ltZ)
+-- ---- a number that is not negative
 
--- what the larger and the smaller are, by their order
+pub pos-up : (z : ℤ) → leZ (pos 0) z ≡ true → z ≡ pos (up z)
+pos-up (pos n) e = refl
+pos-up (negsuc n) e = absurd (true≢false (sym e))
+
+pub down-none : (z : ℤ) → leZ (pos 0) z ≡ true → down z ≡ 0
+down-none (pos n) e = refl
+down-none (negsuc n) e = absurd (true≢false (sym e))
+
+-- the order of a natural and an integer is one of naturals
+pub le-up : (z : ℤ) (n : ℕ) → leZ z (pos n) ≡ leb (up z) n
+le-up (pos m) n = refl
+le-up (negsuc m) n = sym (le-leb 0 n (omega arith))
+
+pub lt-up : (n : ℕ) (z : ℤ) → ltZ (pos n) z ≡ ltb n (up z)
+lt-up n (pos m) = refl
+lt-up n (negsuc m) = sym (le-ltb n 0 (omega arith))
+
+-- ---- the larger and the smaller
+
 pub max-left : (a b : ℤ) → leZ a (maxZ a b) ≡ true
 unfolding maxZ
-max-left a b = go (leZ a b) refl
-  where
-    go : (t : Bool) → leZ a b ≡ t → leZ a (cond t b a) ≡ true
-    go true e = e
-    go false e = omega orderZ
+max-left a b = split (leZ a b) (λ t. leZ a (cond t b a) ≡ true) (λ e. e) (λ e. omega orderZ)
 
 pub max-right : (a b : ℤ) → leZ b (maxZ a b) ≡ true
 unfolding maxZ
-max-right a b = go (leZ a b) refl
-  where
-    go : (t : Bool) → leZ a b ≡ t → leZ b (cond t b a) ≡ true
-    go true e = omega orderZ
-    go false e = omega orderZ
+max-right a b = split (leZ a b) (λ t. leZ b (cond t b a) ≡ true) (λ e. omega orderZ) (λ e. omega orderZ)
+
+pub min-left : (a b : ℤ) → leZ (minZ a b) a ≡ true
+unfolding minZ
+min-left a b = split (leZ a b) (λ t. leZ (cond t a b) a ≡ true) (λ e. omega orderZ) (λ e. omega orderZ)
+
+pub min-right : (a b : ℤ) → leZ (minZ a b) b ≡ true
+unfolding minZ
+min-right a b = split (leZ a b) (λ t. leZ (cond t a b) b ≡ true) (λ e. e) (λ e. omega orderZ)
 
 -- what holds of both holds of the larger, and of the smaller
 pub max-by : (P : ℤ → Type 0) (a b : ℤ) → P a → P b → P (maxZ a b)
 unfolding maxZ
-max-by P a b p q = go (leZ a b)
-  where
-    go : (t : Bool) → P (cond t b a)
-    go true = q
-    go false = p
+max-by P a b p q = split (leZ a b) (λ t. P (cond t b a)) (λ e. q) (λ e. p)
 
 pub min-by : (P : ℤ → Type 0) (a b : ℤ) → P a → P b → P (minZ a b)
 unfolding minZ
-min-by P a b p q = go (leZ a b)
-  where
-    go : (t : Bool) → P (cond t a b)
-    go true = p
-    go false = q
-
-pub min-left : (a b : ℤ) → leZ (minZ a b) a ≡ true
-unfolding minZ
-min-left a b = go (leZ a b) refl
-  where
-    go : (t : Bool) → leZ a b ≡ t → leZ (cond t a b) a ≡ true
-    go true e = omega orderZ
-    go false e = omega orderZ
-
-pub min-right : (a b : ℤ) → leZ (minZ a b) b ≡ true
-unfolding minZ
-min-right a b = go (leZ a b) refl
-  where
-    go : (t : Bool) → leZ a b ≡ t → leZ (cond t a b) b ≡ true
-    go true e = e
-    go false e = omega orderZ
+min-by P a b p q = split (leZ a b) (λ t. P (cond t a b)) (λ e. p) (λ e. q)

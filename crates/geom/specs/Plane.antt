@@ -1,9 +1,10 @@
 -- Points and rectangles of the plane: each number is one f32 operation after another, in the order of the Rust. Assumes nothing.
 use mathlib.Core.Bool.{Bool, _&&_, _||_}
-use lib.Ieee.{Float, toSigned}
+use lib.Ieee.{Float}
 use Rattle.mathf.specs.F32.{_+ᶠ_, _-ᶠ_, _*ᶠ_, _≤ᶠ_, f0, f½, f2, limit, -limit}
 use Rattle.mathf.specs.Order.{minOf, maxOf}
 use Rattle.mathf.specs.Whole.{floorOf, ceilOf}
+use Rattle.mathf.specs.Convert.{toI32}
 use Rattle.geom.specs.declared.Pt.{Pt}
 use Rattle.geom.specs.declared.Rect.{Rect}
 use Rattle.geom.specs.declared.IRect.{IRect}
@@ -58,10 +59,10 @@ noArea r = (r .w ≤ᶠ f0) || (r .h ≤ᶠ f0)
 unfoldable pub outerOf : Rect → IRect
 outerOf r =
     boxOf
-    (toSigned 31 (floorOf (r .x)))
-    (toSigned 31 (floorOf (r .y)))
-    (toSigned 31 (ceilOf (rightOf r)))
-    (toSigned 31 (ceilOf (bottomOf r)))
+    (toI32 (floorOf (r .x)))
+    (toI32 (floorOf (r .y)))
+    (toI32 (ceilOf (rightOf r)))
+    (toI32 (ceilOf (bottomOf r)))
 
 -- finite and -8,192 to 8,192, as every f32 given to a shape or clip call is
 unfoldable pub floatOk : Float → Bool

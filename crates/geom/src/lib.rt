@@ -1,6 +1,6 @@
 // Points, rectangles of the plane and boxes of pixels, all by value.
 ghost use mathlib.Core.Path.{_≡_};
-ghost use lib.Ieee as Ieee;
+ghost use Rattle.mathf.specs.Convert.{toI32};
 ghost use Rattle.mathf.specs.Whole.{floorOf, ceilOf};
 ghost use Rattle.geom.specs.Int.{up, maxZ, minZ};
 ghost use Rattle.geom.specs.Box.{boxOf, meet, empty};
@@ -152,13 +152,13 @@ pub fn nat_of(z: i32) -> usize
 }
 
 fn floor_i(x: f32) -> i32
-    ensures { λ r. ⌜ r ≡ Ieee.toSigned 31 (floorOf x) ⌝ }
+    ensures { λ r. ⌜ r ≡ toI32 (floorOf x) ⌝ }
 {
     mathf::to_i32(mathf::floor(x))
 }
 
 fn ceil_i(x: f32) -> i32
-    ensures { λ r. ⌜ r ≡ Ieee.toSigned 31 (ceilOf x) ⌝ }
+    ensures { λ r. ⌜ r ≡ toI32 (ceilOf x) ⌝ }
 {
     mathf::to_i32(mathf::ceil(x))
 }

@@ -1,7 +1,7 @@
 // The leaf functions over whole slices, for Rust to call: comparison at scale and speed.
 ghost use mathlib.Core.Path.{_≡_};
 ghost use mathlib.Core.List.{map};
-ghost use lib.Ieee as Ieee;
+ghost use Rattle.mathf.specs.Convert.{toU8, toU32, toUsize, toI32};
 ghost use Rattle.mathf.specs.Root.{sqrtOf};
 ghost use Rattle.mathf.specs.Whole.{floorOf, ceilOf};
 ghost use Rattle.color.specs.Inks.{blended};
@@ -36,7 +36,7 @@ pub extern "C" fn leaves_ceil(xs: &mut [f32])
 
 #[no_mangle]
 pub extern "C" fn leaves_to_u8(xs: &[f32], out: &mut [u8])
-    ensures { λ _. ⌜ now (out .exit) ≡ each (Ieee.toUnsigned 8) (now (xs .entry)) (now (out .entry)) ⌝ }
+    ensures { λ _. ⌜ now (out .exit) ≡ each toU8 (now (xs .entry)) (now (out .entry)) ⌝ }
 {
     if xs.len() == out.len() {
         for i in 0..xs.len() {
@@ -47,7 +47,7 @@ pub extern "C" fn leaves_to_u8(xs: &[f32], out: &mut [u8])
 
 #[no_mangle]
 pub extern "C" fn leaves_to_u32(xs: &[f32], out: &mut [u32])
-    ensures { λ _. ⌜ now (out .exit) ≡ each (Ieee.toUnsigned 32) (now (xs .entry)) (now (out .entry)) ⌝ }
+    ensures { λ _. ⌜ now (out .exit) ≡ each toU32 (now (xs .entry)) (now (out .entry)) ⌝ }
 {
     if xs.len() == out.len() {
         for i in 0..xs.len() {
@@ -58,7 +58,7 @@ pub extern "C" fn leaves_to_u32(xs: &[f32], out: &mut [u32])
 
 #[no_mangle]
 pub extern "C" fn leaves_to_usize(xs: &[f32], out: &mut [usize])
-    ensures { λ _. ⌜ now (out .exit) ≡ each (Ieee.toUnsigned 64) (now (xs .entry)) (now (out .entry)) ⌝ }
+    ensures { λ _. ⌜ now (out .exit) ≡ each toUsize (now (xs .entry)) (now (out .entry)) ⌝ }
 {
     if xs.len() == out.len() {
         for i in 0..xs.len() {
@@ -69,7 +69,7 @@ pub extern "C" fn leaves_to_usize(xs: &[f32], out: &mut [usize])
 
 #[no_mangle]
 pub extern "C" fn leaves_to_i32(xs: &[f32], out: &mut [i32])
-    ensures { λ _. ⌜ now (out .exit) ≡ each (Ieee.toSigned 31) (now (xs .entry)) (now (out .entry)) ⌝ }
+    ensures { λ _. ⌜ now (out .exit) ≡ each toI32 (now (xs .entry)) (now (out .entry)) ⌝ }
 {
     if xs.len() == out.len() {
         for i in 0..xs.len() {

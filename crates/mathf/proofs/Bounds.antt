@@ -1,25 +1,27 @@
 -- What a caller learns of the whole numbers next to a float in a known range: an index that is in bounds. A NaN gives 0.
 -- `hi` is any float that is the whole number n: `n as f32`, or a literal. Assumes nothing.
 use mathlib.Core.Path.{_≡_, refl, sym, ap, subst, _∙_}
-use mathlib.Core.Bool.{Bool, true, false, not, cond, _&&_, _||_, true≢false}
+use mathlib.Core.Bool.{Bool, true, false, not, cond, _||_, true≢false}
 use Prim.Native.Nat.{ℕ, zero, suc, _+_, _-_, _*_, _/_, _^_, _≤_, _<_, zero-le, min}
-use native.Mathlib.Nat.{le-of-lt, le-of-eq, le-refl, le-trans, lt-of-le-of-lt, mul-one, mul-pos, mul-right-comm, lt-of-mul-lt-mul-right, zero-mul, zero-div, div-eq-of-lt, div-lt-iff-lt-mul, le-of-suc-le-suc, suc-mul, zero-lt-suc}
+use native.Mathlib.Nat.{lt-of-not-le, le-of-eq, le-trans, lt-of-le-of-lt, mul-one, div-lt-iff-lt-mul, le-of-suc-le-suc, suc-mul}
 use native.Mathlib.Omega.{arith}
-use lib.Dec.{T, ltb→lt, eqb→eq, ltb, eqb, eqb-refl, nltb→le, le→leb, lt→ltb, lit≤, lit<}
-use lib.Arith.{le→nltb, lt-of-le-ne}
+use lib.Dec.{T, T-not, le→leb, lt→ltb, lit≤, lit<}
+use lib.Arith.{le→nltb}
+use lib.Pow.{pow-pos}
 use lib.IntN.{ℤ, pos, negsuc, negℤ, natAbs}
 use lib.Signed.{mag, nonNeg}
 use mir.Syntax.{w32}
 use mir.Val.{toZ, ofZ}
 use mir.ValLaws.{toZ-ofZ}
 use lib.Ieee.{Float, nan, inf, fin, binary32, up, down, round, neg, lt, le, eq, ne, ofBits, ofInt, inFloat, toUnsigned, toSigned}
-use lib.Ieee.Fits.{and-l, and-r, up-pos, down-pos}
+use lib.Ieee.Fits.{down-pos}
 use lib.Ieee.Exact.{HasValue}
 use lib.Ieee.Back.{round-whole, positive-back, negative-back}
 use Rattle.mathf.specs.Order.{minOf, maxOf, clampOf}
 use Rattle.mathf.specs.F32.{f0}
 use Rattle.mathf.specs.Whole.{floorOf, ceilOf, wholeOf, cutDown, takenUp}
-use Rattle.mathf.proofs.Floors.{ge-whole}
+use Rattle.mathf.proofs.Compared.{no-size, le-of, le-same, finite-value, not-lt-of-le}
+use Rattle.mathf.proofs.Floors.{ge-whole, zero-cut, zero-taken}
 
 -- ---- a whole float as an integer
 minus-zero : toSigned 31 (wholeOf true 0) ≡ pos 0
@@ -33,13 +35,13 @@ signed-whole true zero h = minus-zero
 signed-whole true (suc k) h = negative-back binary32 31 k (lt→ltb k (2 ^ 24) h) (le-trans h (lit≤ tt)) .1
 
 -- ---- the cut of a fraction that is at most n
-cut-le : (a d n : ℕ) → 0 < d → a ≤ n * d → cutDown a d ≤ n
+pub cut-le : (a d n : ℕ) → 0 < d → a ≤ n * d → cutDown a d ≤ n
 cut-le a d n h l = le-of-suc-le-suc (div-lt-iff-lt-mul h .1 (rw suc-mul (room (n * d) l)))
   where
     room : (x : ℕ) → a ≤ x → a < x + d
     room x l = omega arith
 
-taken-le : (a d n : ℕ) → 0 < d → a ≤ n * d → takenUp a d ≤ n
+pub taken-le : (a d n : ℕ) → 0 < d → a ≤ n * d → takenUp a d ≤ n
 taken-le a d n h l = le-of-suc-le-suc (div-lt-iff-lt-mul h .1 (rw suc-mul (room (n * d) l)))
   where
     room : (x : ℕ) → a ≤ x → a + (d - 1) < x + d
@@ -62,24 +64,6 @@ pub record Within (n : ℕ) (v : Float) : Type 0 where
 index-of : (s : Bool) (n k : ℕ) → n ≤ 2 ^ 24 → k ≤ n → (s ≡ true → k ≡ 0) → Index n (toSigned 31 (wholeOf s k))
 index-of false n k b l z = record { at = k; is = signed-whole false k (le-trans l b); within = l }
 index-of true n k b l z = record { at = 0; is = signed-whole true k (le-trans l b) ∙ ap (λ (i : ℕ). negℤ (pos i)) (z refl); within = zero-le }
-
--- a negative number that is not below 0 is -0
-no-size : (m : ℕ) (e : ℤ) → T (not (lt (fin true m e) (fin false 0 (pos 0)))) → m ≡ 0
-unfolding lt
-no-size zero e t = refl
-no-size (suc m) e t = absurd (none (suc m * up e) (0 * 1 * down e) (mul-pos (zero-lt-suc m) (up-pos e)) (nltb→le 0 (suc m * up e * 1 + 0 * 1 * down e) t))
-  where
-    none : (a z : ℕ) → 0 < a → a * 1 + z ≤ 0 → ⊥
-    none a z p q = omega arith
-
-zero-cut : (m : ℕ) (e : ℤ) → m ≡ 0 → cutDown (m * up e) (down e) ≡ 0
-zero-cut m e z = ap (λ (k : ℕ). k / down e) (ap (λ (k : ℕ). k * up e) z ∙ zero-mul (up e)) ∙ zero-div (down e)
-
-zero-taken : (m : ℕ) (e : ℤ) → m ≡ 0 → takenUp (m * up e) (down e) ≡ 0
-zero-taken m e z = ap (λ (k : ℕ). (k + (down e - 1)) / down e) (ap (λ (k : ℕ). k * up e) z ∙ zero-mul (up e)) ∙ div-eq-of-lt (less (down e) (down-pos e))
-  where
-    less : (d : ℕ) → 0 < d → 0 + (d - 1) < d
-    less d h = omega arith
 
 not-inf : (hi : Float) (n : ℕ) → HasValue hi false n 1 → T (not (lt hi (inf false))) → ⊥
 unfolding lt
@@ -122,20 +106,13 @@ not-below-zero (fin false p g) n v = le→nltb (p * up g * 1) (0 * 1 * down g) (
     none : (a d : ℕ) → 0 * 1 * d ≤ a
     none a d = omega arith
 
-not-below-itself : (hi : Float) (n : ℕ) → HasValue hi false n 1 → T (not (lt hi hi))
-unfolding lt
-not-below-itself nan n v = absurd v
-not-below-itself (inf s) n v = absurd v
-not-below-itself (fin true p g) n v = absurd (true≢false (v .0))
-not-below-itself (fin false p g) n v = le→nltb (p * up g * down g) (p * up g * down g) (le-refl (p * up g * down g))
-
 pub clamp-within : (n : ℕ) (x hi : Float) → HasValue hi false n 1 → Within n (clampOf x f0 hi)
 unfolding ofBits
 clamp-within n x hi v = go (lt x (fin false 0 (pos 0))) (lt hi x) (λ t. t) (λ t. t)
   where
     go : (a b : Bool) → (T (not a) → T (not (lt x (fin false 0 (pos 0))))) → (T (not b) → T (not (lt hi x))) → Within n (cond a (fin false 0 (pos 0)) (cond b hi x))
     go true b f g = record { hi = hi; whole = v; low = unfold lt in tt; high = not-below-zero hi n v }
-    go false true f g = record { hi = hi; whole = v; low = not-below-zero hi n v; high = not-below-itself hi n v }
+    go false true f g = record { hi = hi; whole = v; low = not-below-zero hi n v; high = not-lt-of-le hi hi (le-same hi (finite-value hi false n 1 v)) }
     go false false f g = record { hi = hi; whole = v; low = f tt; high = g tt }
 
 -- `n as f32`, for an n up to 2 ^ 24, is the whole number n
@@ -203,33 +180,14 @@ or-none : (a b : Bool) → T (not (a || b)) → T (not a)
 or-none true b t = t
 or-none false b t = tt
 
-or-none-r : (a b : Bool) → T (not (a || b)) → T (not b)
-or-none-r true b t = absurd t
-or-none-r false b t = t
-
 min-le : (a c : ℕ) → min a c ≤ a
 min-le a c = omega arith
 
 -- hi is the whole number n, and not at most m * 2 ^ e
 gt-whole : (hi : Float) (n m : ℕ) (e : ℤ) → HasValue hi false n 1 → T (not (le hi (fin false m e))) → m * up e < n * down e
-unfolding le lt eq
-gt-whole nan n m e v t = absurd v
-gt-whole (inf s) n m e v t = absurd v
-gt-whole (fin true p g) n m e v t = absurd (true≢false (v .0))
-gt-whole (fin false p g) n m e v t =
-    let a = p * up g * down e in
-    let b = m * up e * down g in
-    let l : b ≤ a = nltb→le a b (or-none (ltb a b) (eqb a b && true) t) in
-    let d : a ≡ b → ⊥ = differ a b (or-none-r (ltb a b) (eqb a b && true) t) in
-    lt-of-mul-lt-mul-right (down g)
-    (subst (λ (z : ℕ). b < z) (ap (λ (z : ℕ). z * down e) (sym (mul-one (p * up g)) ∙ v .1) ∙ mul-right-comm n (down g) (down e)) (lt-of-le-ne l (λ (q : b ≡ a). d (sym q))))
-  where
-    differ : (a b : ℕ) → T (not (eqb a b && true)) → a ≡ b → ⊥
-    differ a b t q = both (eqb a b) (subst (λ (z : ℕ). T (eqb a z)) q (eqb-refl a)) t
-      where
-        both : (x : Bool) → T x → T (not (x && true)) → ⊥
-        both true u t = t
-        both false u t = u
+gt-whole hi n m e v t =
+    lt-of-not-le (λ (k : n * down e ≤ m * up e). T-not (le hi (fin false m e)) t
+    (le-of hi (fin false m e) false false n 1 (m * up e) (down e) (pow-pos 0) (down-pos e) v (refl, refl) (le-trans k (le-of-eq (sym (mul-one (m * up e)))))))
 
 -- ---- a float that is not n or more, cut to a whole number, is an index below n: a table of n entries
 pub cut-below : (w n : ℕ) (v hi : Float) → 0 < n → HasValue hi false n 1 → T (not (le hi v)) → toUnsigned w v < n
@@ -241,46 +199,6 @@ cut-below w n (fin true m e) hi p h t = p
 cut-below w n (fin false m e) hi p h t = lt-of-le-of-lt (min-le (m * up e / down e) (2 ^ w - 1)) (div-lt-iff-lt-mul (down-pos e) .1 (gt-whole hi n m e h t))
 
 -- ---- the range that a test of a float leaves: `lo <= x` and `x <= hi`, which no NaN passes
-pub le-cases : (a b : ℕ) → T (ltb a b || (eqb a b && true)) → a ≤ b
-le-cases a b t = go (ltb a b) (eqb a b) (λ u. le-of-lt (ltb→lt a b u)) (λ u. le-of-eq (eqb→eq a b u)) t
-  where
-    go : (p q : Bool) → (T p → a ≤ b) → (T q → a ≤ b) → T (p || (q && true)) → a ≤ b
-    go true q f g t = f tt
-    go false true f g t = g tt
-    go false false f g t = absurd t
-
-ge-cases : (a b : ℕ) → T (ltb b a || (eqb a b && true)) → b ≤ a
-ge-cases a b t = go (ltb b a) (eqb a b) (λ u. le-of-lt (ltb→lt b a u)) (λ u. le-of-eq (sym (eqb→eq a b u))) t
-  where
-    go : (p q : Bool) → (T p → b ≤ a) → (T q → b ≤ a) → T (p || (q && true)) → b ≤ a
-    go true q f g t = f tt
-    go false true f g t = g tt
-    go false false f g t = absurd t
-
-both-zero : (a b : ℕ) → T (eqb a b && eqb a 0) → T (not (ltb 0 (b + a)))
-both-zero a b t = le→nltb 0 (b + a) (sum a b (eqb→eq a b (and-l (eqb a b) (eqb a 0) t)) (eqb→eq a 0 (and-r (eqb a b) (eqb a 0) t)))
-  where
-    sum : (a b : ℕ) → a ≡ b → a ≡ 0 → b + a ≤ 0
-    sum a b p q = omega arith
-
-pub not-lt-of-le : (a b : Float) → T (le a b) → T (not (lt b a))
-unfolding le lt eq
-not-lt-of-le nan b t = absurd t
-not-lt-of-le (inf s) nan t = absurd t
-not-lt-of-le (inf true) (inf true) t = tt
-not-lt-of-le (inf true) (inf false) t = tt
-not-lt-of-le (inf false) (inf true) t = absurd t
-not-lt-of-le (inf false) (inf false) t = tt
-not-lt-of-le (inf true) (fin u n d) t = tt
-not-lt-of-le (inf false) (fin u n d) t = absurd t
-not-lt-of-le (fin s m e) nan t = absurd t
-not-lt-of-le (fin s m e) (inf true) t = absurd t
-not-lt-of-le (fin s m e) (inf false) t = tt
-not-lt-of-le (fin false m e) (fin false n d) t = let a = m * up e * down d in let b = n * up d * down e in le→nltb b a (le-cases a b t)
-not-lt-of-le (fin false m e) (fin true n d) t = both-zero (m * up e * down d) (n * up d * down e) t
-not-lt-of-le (fin true m e) (fin false n d) t = tt
-not-lt-of-le (fin true m e) (fin true n d) t = let a = m * up e * down d in let b = n * up d * down e in le→nltb a b (ge-cases a b t)
-
 pub sized-of-tests : (n : ℕ) (x hi : Float) → HasValue hi false n 1 → T (le (neg hi) x) → T (le x hi) → Sized n x
 sized-of-tests n x hi v a b = record { hi = hi; whole = v; low = not-lt-of-le (neg hi) x a; high = not-lt-of-le x hi b }
 

@@ -2,28 +2,22 @@
 -- Assumes nothing.
 use mathlib.Core.Path.{_≡_, refl, sym, ap, subst, _∙_}
 use mathlib.Core.Bool.{Bool, true, false, not}
-use Prim.Native.Nat.{ℕ, _+_, _-_, _*_, _/_, _%_, _^_, _≤_, _<_, min}
+use Prim.Native.Nat.{ℕ, _+_, _-_, _*_, _/_, _^_, _≤_, _<_}
 use native.Mathlib.Nat.{le-trans, le-of-eq, lt-of-lt-of-le, lt-of-le-of-lt, not-le-of-lt, mul-one, one-mul, mul-comm, mul-assoc, mul-right-comm, mul-le-mul-right, mul-lt-mul-of-pos-right, le-of-mul-le-mul-right, lt-of-mul-lt-mul-right}
 use native.Mathlib.Omega.{arith}
 use lib.Dec.{T, ltb, eqb, eqb→eq, ltb→lt, nltb→le, lit≤}
 use lib.IntN.{ℤ, pos}
-use lib.Pow.{pow-add, pow-pos}
+use lib.Pow.{pow-add, pow-pos, shl-lt}
 use lib.Ieee.{Float, nan, inf, fin, binary32, up, down, lt, le, eq, fits, toBits, ofBits, toUnsigned}
 use lib.Ieee.Fits.{down-pos, and-r}
 use lib.Ieee.Exact.{HasValue}
 use lib.Ieee.Nearest.{div-same}
 use lib.Ieee.Bits.{ofBits-toBits}
-use Rattle.mathf.proofs.Saturating.{under}
-use Rattle.mathf.proofs.Patterns.{low-pattern, high-pattern, finite-bits}
-use Rattle.mathf.proofs.Scaled.{below-pow, shl-ge, shl-lt}
-use Rattle.mathf.proofs.Bounds.{le-cases, cut-below}
-
--- the fields of a pattern: the exponent's, and the significand with its leading digit
-abbrev pub fieldOf : ℕ → ℕ
-fieldOf b = b / 2 ^ 23
-
-abbrev pub sigOf : ℕ → ℕ
-sigOf b = b % 2 ^ 23 + 2 ^ 23
+use Rattle.mathf.proofs.Saturating.{under, uncapped}
+use Rattle.mathf.proofs.Patterns.{fieldOf, sigOf, sig-low, sig-high, low-pattern, high-pattern, finite-bits}
+use Rattle.mathf.proofs.Scaled.{below-pow, shl-ge}
+use Rattle.mathf.proofs.Bounds.{cut-below}
+use Rattle.mathf.proofs.Compared.{at-most}
 
 pub record Cut (x : Float) : Type 0 where
   pub low : 127 ≤ fieldOf (toBits binary32 x)
@@ -34,7 +28,7 @@ pub record Cut (x : Float) : Type 0 where
 units-ge : (m n : ℕ) (e : ℤ) → m * up e * 2 ^ 149 ≡ n * down e → T (le (fin false 1 (pos 0)) (fin false m e)) → 2 ^ 149 ≤ n
 unfolding le lt eq
 units-ge m n e v t =
-    let a : down e ≤ m * up e = ones (down e) (m * up e) (le-cases (1 * 1 * down e) (m * up e * 1) t) in
+    let a : down e ≤ m * up e = ones (down e) (m * up e) (at-most false false (1 * 1 * down e) (m * up e * 1) t) in
     le-of-mul-le-mul-right (le-trans (le-of-eq (mul-comm (2 ^ 149) (down e))) (le-trans (mul-le-mul-right (2 ^ 149) a) (le-of-eq v))) (down-pos e)
   where
     ones : (d a : ℕ) → 1 * 1 * d ≤ a * 1 → d ≤ a
@@ -48,14 +42,8 @@ units-lt m n e v t =
     (lt-of-le-of-lt (le-of-eq (sym v)) (lt-of-lt-of-le (mul-lt-mul-of-pos-right a (pow-pos 149)) (le-of-eq (mul-right-comm (2 ^ 23) (down e) (2 ^ 149) ∙ ap (λ (z : ℕ). z * down e) (sym (pow-add 2 23 149))))))
 
 -- ---- a pattern in that range
-sig-low : (b : ℕ) → 2 ^ 23 ≤ sigOf b
-sig-low b = omega arith
-
-sig-high : (b : ℕ) → sigOf b < 2 ^ 24
-sig-high b = omega arith
-
 field-low : (b : ℕ) → 2 ^ 149 ≤ sigOf b * 2 ^ (fieldOf b - 1) → 127 ≤ fieldOf b
-field-low b h = room (fieldOf b) (below-pow 149 (24 + (fieldOf b - 1)) _ h (shl-lt (sigOf b) (fieldOf b - 1) 24 (sig-high b)))
+field-low b h = room (fieldOf b) (below-pow 149 (24 + (fieldOf b - 1)) _ h (shl-lt 24 (fieldOf b - 1) (sig-high b)))
   where
     room : (f : ℕ) → 149 < 24 + (f - 1) → 127 ≤ f
     room f h = omega arith
@@ -74,9 +62,6 @@ shifted-cut s f l h =
   where
     sum : (f : ℕ) → 127 ≤ f → f < 150 → f - 1 + (150 - f) ≡ 149
     sum f l h = omega arith
-
-uncapped : (a c : ℕ) → a < c → a ≡ min a (c - 1)
-uncapped a c h = omega arith
 
 pub cut-of : (x : Float) → T (fits binary32 x) → T (le (fin false 1 (pos 0)) x) → T (lt x (fin false 1 (pos 23))) → Cut x
 unfolding le lt eq
@@ -109,7 +94,7 @@ cut-of (fin false m e) t a b = go (ltb p (2 ^ 23)) (ltb→lt p (2 ^ 23)) (nltb�
         }
       where
         capped : m * up e / down e ≡ toUnsigned 23 (fin false m e)
-        capped = unfold toUnsigned in uncapped (m * up e / down e) (2 ^ 23) (under m e 23 b)
+        capped = unfold toUnsigned in sym (uncapped (m * up e / down e) (2 ^ 23) (under m e 23 b))
 
 -- below 1 nothing is left
 pub cut-none : (x : Float) → T (not (le (fin false 1 (pos 0)) x)) → 0 ≡ toUnsigned 23 x

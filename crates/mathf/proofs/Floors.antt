@@ -2,20 +2,21 @@
 -- Assumes nothing.
 use mathlib.Core.Path.{_≡_, refl, sym, ap, subst, _∙_}
 use mathlib.Core.Bool.{Bool, true, false, not, cond, _&&_, true≢false}
-use Prim.Native.Nat.{ℕ, zero, suc, _+_, _-_, _*_, _/_, _%_, _^_, _≤_, _<_, min}
-use native.Mathlib.Nat.{add-zero, zero-mul, mul-one, mul-pos, mul-assoc, mul-right-comm, zero-lt-suc, le-trans, le-antisymm, mul-lt-mul-of-pos-right, lt-of-mul-lt-mul-right, le-of-mul-le-mul-right, div-lt-iff-lt-mul, le-div-iff-mul-le, div-mul-le-self, div-one, pow-succ', suc-mul, le-of-suc-le-suc, le-add-right, lt-suc-self, zero-div, div-eq-of-lt}
+use Prim.Native.Nat.{ℕ, zero, suc, _+_, _-_, _*_, _/_, _%_, _^_, _≤_, _<_}
+use native.Mathlib.Nat.{add-zero, zero-mul, mul-one, mul-assoc, mul-right-comm, zero-lt-suc, le-trans, le-antisymm, mul-lt-mul-of-pos-right, lt-of-mul-lt-mul-right, le-of-mul-le-mul-right, div-lt-iff-lt-mul, le-div-iff-mul-le, div-mul-le-self, div-one, pow-succ', suc-mul, le-of-suc-le-suc, le-add-right, lt-suc-self, zero-div, div-eq-of-lt}
 use native.Mathlib.Numerals.{add-one}
 use native.Mathlib.Omega.{arith}
-use lib.Dec.{T, ltb, leb, eqb, le→leb, ltb→lt, nltb→le, lit≤}
+use lib.Dec.{T, T-not, ltb, leb, eqb, le→leb, leb→le, ltb→lt, nltb→le, lit≤}
 use lib.IntN.{ℤ, pos, negsuc}
 use lib.Pow.{pow-pos, pow-add}
 use lib.Ieee.{Float, nan, inf, fin, Format, binary32, prec, emax, low, up, down, odd, units, round, neg, lt, ofInt, toUnsigned, inFloat, fits}
 use lib.Ieee.Casts.{toUnsigned-lt}
-use lib.Ieee.Fits.{down-pos, up-pos, round-is, round-fits, and-l, and-r}
+use lib.Ieee.Fits.{down-pos, round-is, round-fits, and-l, and-r}
 use lib.Ieee.Exact.{HasValue, round-exact}
 use lib.Ieee.Back.{round-whole, whole-unique}
 use Rattle.mathf.specs.Whole.{floorOf, ceilOf, wholeOf, cutDown, takenUp}
-use Rattle.mathf.proofs.Saturating.{under, over, pos-over, passed, failed, clash}
+use Rattle.mathf.proofs.Saturating.{under, over, pos-over, passed, failed, uncapped}
+use Rattle.mathf.proofs.Compared.{not-negative, negative, above-zero}
 
 -- ---- a sign goes through rounding
 neg-odd : (d q k l : ℕ) (s : Bool) → neg (odd d s q k l) ≡ odd d (not s) q k l
@@ -35,21 +36,22 @@ pub neg-round : (f : Format) (s : Bool) (a b : ℕ) → neg (round f s a b) ≡ 
 neg-round f s a b = rw (round-is, round-is) (neg-units f s _ _)
 
 -- ---- what it takes to fit: of a number above zero
-pub fit-parts : (s : Bool) (m : ℕ) (e : ℤ) → T (fits binary32 (fin s (suc m) e)) → (suc m < 2 ^ 24) × (suc m * up e < 2 ^ 128 * down e)
+pub fit-parts : (s : Bool) (m : ℕ) (e : ℤ) → T (fits binary32 (fin s (suc m) e)) → (suc m < 2 ^ 24) × (suc m * up e < 2 ^ 128 * down e) × (down e ≤ 2 ^ 149)
 unfolding fits
 fit-parts s m e t =
     let a : Bool = eqb (suc m % 2) 1 in
     let b : Bool = ltb (suc m) (2 ^ 24) in
     let c : Bool = leb (down e) (2 ^ 149) in
     let d : Bool = ltb (suc m * up e) (2 ^ 128 * down e) in
-    (ltb→lt (suc m) (2 ^ 24) (and-r a b (and-l (a && b) c (and-l (a && b && c) d t))), ltb→lt (suc m * up e) (2 ^ 128 * down e) (and-r (a && b && c) d t))
+    let low = and-l (a && b && c) d t in
+    (ltb→lt (suc m) (2 ^ 24) (and-r a b (and-l (a && b) c low)), ltb→lt (suc m * up e) (2 ^ 128 * down e) (and-r (a && b && c) d t), leb→le (down e) (2 ^ 149) (and-r (a && b) c low))
 
 -- ---- a float that is whole is the float of its whole number
 units-below : (m k : ℕ) → m * 2 ^ k < 2 ^ 128 * 1 → m * 2 ^ (k + 149) < 2 ^ (149 + 128)
 units-below m k h =
     subst (λ (z : ℕ). z < 2 ^ 277) (mul-assoc m (2 ^ k) (2 ^ 149) ∙ ap (λ (z : ℕ). m * z) (sym (pow-add 2 k 149))) (mul-lt-mul-of-pos-right h (pow-pos 149))
 
-whole-value : (s : Bool) (m k : ℕ) → T (fits binary32 (fin s m (pos k))) → HasValue (wholeOf s (m * 2 ^ k)) s (m * 2 ^ k) 1
+pub whole-value : (s : Bool) (m k : ℕ) → T (fits binary32 (fin s m (pos k))) → HasValue (wholeOf s (m * 2 ^ k)) s (m * 2 ^ k) 1
 whole-value s zero k t = subst (λ (z : ℕ). HasValue (wholeOf s z) s z 1) (sym (zero-mul (2 ^ k))) (round-whole binary32 s 0 (lit≤ tt))
 whole-value s (suc m) k t =
     let p = fit-parts s m (pos k) t in
@@ -62,6 +64,16 @@ whole-is s m k t = whole-unique binary32 (wholeOf s (m * 2 ^ k)) (fin s m (pos k
 -- a zero, whatever is written beside it
 zero-is : (s : Bool) (e : ℤ) → T (fits binary32 (fin s zero e)) → wholeOf s 0 ≡ fin s zero e
 zero-is s e t = whole-unique binary32 (wholeOf s 0) (fin s zero e) s 0 (round-fits binary32 s 0 1) t (round-whole binary32 s 0 (lit≤ tt)) (refl, ap (λ (z : ℕ). z * 1) (zero-mul (up e)) ∙ sym (zero-mul (down e)))
+
+-- whatever way it is cut
+pub zero-cut : (m : ℕ) (e : ℤ) → m ≡ 0 → cutDown (m * up e) (down e) ≡ 0
+zero-cut m e z = ap (λ (k : ℕ). k / down e) (ap (λ (k : ℕ). k * up e) z ∙ zero-mul (up e)) ∙ zero-div (down e)
+
+pub zero-taken : (m : ℕ) (e : ℤ) → m ≡ 0 → takenUp (m * up e) (down e) ≡ 0
+zero-taken m e z = ap (λ (k : ℕ). (k + (down e - 1)) / down e) (ap (λ (k : ℕ). k * up e) z ∙ zero-mul (up e)) ∙ div-eq-of-lt (less (down e) (down-pos e))
+  where
+    less : (d : ℕ) → 0 < d → 0 + (d - 1) < d
+    less d h = omega arith
 
 -- ---- from 2 ^ 23 up a float is whole
 no-fraction : (m k : ℕ) → m < 2 ^ 24 → 2 ^ 23 * 2 ^ suc k ≤ m * 1 → ⊥
@@ -90,9 +102,6 @@ small-T (inf true) a b = absurd a
 small-T (inf false) a b = absurd b
 small-T (fin true m e) a b = absurd a
 small-T (fin false m e) a b = ap (wholeOf false) (uncapped (m * up e / down e) (2 ^ 23) (under m e 23 b))
-  where
-    uncapped : (a c : ℕ) → a < c → min a (c - 1) ≡ a
-    uncapped a c h = omega arith
 
 big-T : (x : Float) → T (fits binary32 x) → T (lt (fin false 0 (pos 0)) x) → T (not (lt x (fin false 1 (pos 23)))) → x ≡ floorOf x
 unfolding lt floorOf
@@ -118,10 +127,7 @@ below-asks nan a b = absurd a
 below-asks (inf true) a b = absurd b
 below-asks (inf false) a b = absurd a
 below-asks (fin true m e) a b = (pos-over m e 0, b)
-below-asks (fin false m e) a b = absurd (none (m * up e * 1) (down e) (ltb→lt (m * up e * 1) (0 * 1 * down e) a))
-  where
-    none : (a d : ℕ) → a < 0 * 1 * d → ⊥
-    none a d h = omega arith
+below-asks (fin false m e) a b = absurd (not-negative m e a)
 
 -- y is the whole number n: how it compares with m * 2 ^ e
 pub lt-whole : (y : Float) (n m : ℕ) (e : ℤ) → HasValue y false n 1 → T (lt y (fin false m e)) → n * down e < m * up e
@@ -168,9 +174,6 @@ taken-same a d h l = div-is (a + (d - 1)) d (a / d) h (le-trans (div-mul-le-self
     high x l = omega arith
 
 -- below zero: the cut of -x, and one more where something was cut off
-uncapped : (a c : ℕ) → a < c → min a (c - 1) ≡ a
-uncapped a c h = omega arith
-
 n-small : (n : ℕ) → n < 2 ^ 23 → n ≤ 2 ^ 24
 n-small n h = omega arith
 
@@ -178,61 +181,37 @@ neg-whole : (n : ℕ) → neg (ofInt binary32 (pos n)) ≡ wholeOf true n
 unfolding ofInt
 neg-whole n = neg-round binary32 false n 1
 
-more-T : (x : Float) (n : ℕ) → T (lt x (fin false 0 (pos 0))) → T (lt (fin true 1 (pos 23)) x) → n ≡ toUnsigned 23 (neg x) → T (lt (ofInt binary32 (pos n)) (neg x)) → wholeOf true (suc n) ≡ floorOf x
+below-T : (x : Float) (n : ℕ) → T (lt x (fin false 0 (pos 0))) → T (lt (fin true 1 (pos 23)) x) → n ≡ toUnsigned 23 (neg x)
+    → (T (lt (ofInt binary32 (pos n)) (neg x)) → wholeOf true (suc n) ≡ floorOf x) × (T (not (lt (ofInt binary32 (pos n)) (neg x))) → wholeOf true n ≡ floorOf x)
 unfolding lt neg toUnsigned floorOf ofInt
-more-T nan n a b c d = absurd a
-more-T (inf true) n a b c d = absurd b
-more-T (inf false) n a b c d = absurd a
-more-T (fin false m e) n a b c d = absurd (none (m * up e * 1) (down e) (ltb→lt (m * up e * 1) (0 * 1 * down e) a))
-  where
-    none : (a d : ℕ) → a < 0 * 1 * d → ⊥
-    none a d h = omega arith
-more-T (fin true m e) n a b c d =
+below-T nan n a b c = absurd a
+below-T (inf true) n a b c = absurd b
+below-T (inf false) n a b c = absurd a
+below-T (fin false m e) n a b c = absurd (not-negative m e a)
+below-T (fin true m e) n a b c =
     let u : m * up e / down e < 2 ^ 23 = under m e 23 b in
     let q : n ≡ m * up e / down e = c ∙ uncapped (m * up e / down e) (2 ^ 23) u in
-    let l : n * down e < m * up e = lt-whole (wholeOf false n) n m e (round-whole binary32 false n (n-small n (subst (λ (z : ℕ). z < 2 ^ 23) (sym q) u))) d in
-    ap (wholeOf true) (ap suc q ∙ sym (taken-more (m * up e) (down e) (down-pos e) (subst (λ (z : ℕ). z * down e < m * up e) q l)))
-
-same-T : (x : Float) (n : ℕ) → T (lt x (fin false 0 (pos 0))) → T (lt (fin true 1 (pos 23)) x) → n ≡ toUnsigned 23 (neg x) → T (not (lt (ofInt binary32 (pos n)) (neg x))) → wholeOf true n ≡ floorOf x
-unfolding lt neg toUnsigned floorOf ofInt
-same-T nan n a b c d = absurd a
-same-T (inf true) n a b c d = absurd b
-same-T (inf false) n a b c d = absurd a
-same-T (fin false m e) n a b c d = absurd (none (m * up e * 1) (down e) (ltb→lt (m * up e * 1) (0 * 1 * down e) a))
-  where
-    none : (a d : ℕ) → a < 0 * 1 * d → ⊥
-    none a d h = omega arith
-same-T (fin true m e) n a b c d =
-    let u : m * up e / down e < 2 ^ 23 = under m e 23 b in
-    let q : n ≡ m * up e / down e = c ∙ uncapped (m * up e / down e) (2 ^ 23) u in
-    let l : m * up e ≤ n * down e = ge-whole (wholeOf false n) n m e (round-whole binary32 false n (n-small n (subst (λ (z : ℕ). z < 2 ^ 23) (sym q) u))) d in
-    ap (wholeOf true) (q ∙ sym (taken-same (m * up e) (down e) (down-pos e) (subst (λ (z : ℕ). m * up e ≤ z * down e) q l)))
+    let v = round-whole binary32 false n (n-small n (subst (λ (z : ℕ). z < 2 ^ 23) (sym q) u)) in (
+      λ d. ap (wholeOf true) (ap suc q ∙ sym (taken-more (m * up e) (down e) (down-pos e) (subst (λ (z : ℕ). z * down e < m * up e) q (lt-whole (wholeOf false n) n m e v d)))),
+      λ d. ap (wholeOf true) (q ∙ sym (taken-same (m * up e) (down e) (down-pos e) (subst (λ (z : ℕ). m * up e ≤ z * down e) q (ge-whole (wholeOf false n) n m e v d)))),
+    )
 
 low-T : (x : Float) → T (fits binary32 x) → T (lt x (fin false 0 (pos 0))) → T (not (lt (fin true 1 (pos 23)) x)) → x ≡ floorOf x
 unfolding lt floorOf
 low-T nan t a b = refl
 low-T (inf s) t a b = refl
 low-T (fin true m e) t a b = sym (big-is true m e t (over m e 23 b) .1)
-low-T (fin false m e) t a b = absurd (clash (ltb 0 (1 * 2 ^ 23 * down e + m * up e * 1)) (pos-over m e 23) b)
+low-T (fin false m e) t a b = absurd (T-not (ltb 0 (1 * 2 ^ 23 * down e + m * up e * 1)) b (pos-over m e 23))
 
 -- neither above zero nor below it: a zero, with either sign, or a NaN
 still-T : (x : Float) → T (fits binary32 x) → T (not (lt (fin false 0 (pos 0)) x)) → T (not (lt x (fin false 0 (pos 0)))) → x ≡ floorOf x
 unfolding lt floorOf
 still-T nan t a b = refl
 still-T (inf s) t a b = refl
-still-T (fin false zero e) t a b = sym (ap (wholeOf false) (ap (λ (z : ℕ). z / down e) (zero-mul (up e)) ∙ zero-div (down e)) ∙ zero-is false e t)
-still-T (fin false (suc m) e) t a b = absurd (none (suc m * up e) (down e) (mul-pos (zero-lt-suc m) (up-pos e)) (nltb→le (0 * 1 * down e) (suc m * up e * 1) a))
-  where
-    none : (a d : ℕ) → 0 < a → a * 1 ≤ 0 * 1 * d → ⊥
-    none a d p q = omega arith
-still-T (fin true zero e) t a b = sym (ap (wholeOf true) (ap (λ (z : ℕ). (z + (down e - 1)) / down e) (zero-mul (up e)) ∙ div-eq-of-lt (less (down e) (down-pos e))) ∙ zero-is true e t)
-  where
-    less : (d : ℕ) → 0 < d → 0 + (d - 1) < d
-    less d h = omega arith
-still-T (fin true (suc m) e) t a b = absurd (none (suc m * up e) (0 * 1 * down e) (mul-pos (zero-lt-suc m) (up-pos e)) (nltb→le 0 (suc m * up e * 1 + 0 * 1 * down e) b))
-  where
-    none : (a z : ℕ) → 0 < a → a * 1 + z ≤ 0 → ⊥
-    none a z p q = omega arith
+still-T (fin false zero e) t a b = sym (ap (wholeOf false) (zero-cut zero e refl) ∙ zero-is false e t)
+still-T (fin false (suc m) e) t a b = absurd (T-not (lt (fin false 0 (pos 0)) (fin false (suc m) e)) a (above-zero (suc m) e (zero-lt-suc m)))
+still-T (fin true zero e) t a b = sym (ap (wholeOf true) (zero-taken zero e refl) ∙ zero-is true e t)
+still-T (fin true (suc m) e) t a b = absurd (negative m e b)
 
 -- ---- the ways through `floor`, from what its branches found
 pub small : (x : Float) (n : ℕ) → lt (fin false 0 (pos 0)) x ≡ true → lt x (fin false 1 (pos 23)) ≡ true → n ≡ toUnsigned 23 x → ofInt binary32 (pos n) ≡ floorOf x
@@ -243,10 +222,10 @@ pub big : (x : Float) → T (fits binary32 x) → lt (fin false 0 (pos 0)) x ≡
 big x t a b = big-T x t (passed a) (failed b)
 
 pub more : (x : Float) (n : ℕ) → lt x (fin false 0 (pos 0)) ≡ true → lt (fin true 1 (pos 23)) x ≡ true → n ≡ toUnsigned 23 (neg x) → lt (ofInt binary32 (pos n)) (neg x) ≡ true → neg (ofInt binary32 (pos (n + 1))) ≡ floorOf x
-more x n a b e d = neg-whole (n + 1) ∙ ap (wholeOf true) (add-one n) ∙ more-T x n (passed a) (passed b) e (passed d)
+more x n a b e d = neg-whole (n + 1) ∙ ap (wholeOf true) (add-one n) ∙ below-T x n (passed a) (passed b) e .0 (passed d)
 
 pub same : (x : Float) (n : ℕ) → lt x (fin false 0 (pos 0)) ≡ true → lt (fin true 1 (pos 23)) x ≡ true → n ≡ toUnsigned 23 (neg x) → lt (ofInt binary32 (pos n)) (neg x) ≡ false → neg (ofInt binary32 (pos n)) ≡ floorOf x
-same x n a b e d = neg-whole n ∙ same-T x n (passed a) (passed b) e (failed d)
+same x n a b e d = neg-whole n ∙ below-T x n (passed a) (passed b) e .1 (failed d)
 
 pub low-down : (x : Float) → T (fits binary32 x) → lt x (fin false 0 (pos 0)) ≡ true → lt (fin true 1 (pos 23)) x ≡ false → x ≡ floorOf x
 low-down x t a b = low-T x t (passed a) (failed b)

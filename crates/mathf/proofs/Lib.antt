@@ -1,10 +1,14 @@
--- The laws that belong to no one function. Assumes nothing.
+-- The laws that belong to no one function, and the proof of the claims (Trust). Assumes nothing.
+pub mod Compared
 pub mod Saturating
 pub mod Floors
 pub mod Bounds
 pub mod Roots
 pub mod Patterns
 pub mod Scaled
-pub mod Nearest
-pub mod Ints
 pub mod Cuts
+pub mod Nearest
+pub mod NextWhole
+pub mod Trust
+pub mod Monotone
+pub mod Ints

@@ -9,7 +9,7 @@ use Rattle.color.proofs.blending.covered.Tie as tie
 
 returns : tie.Need-returns
 unfolding coveredBy
-returns c = simp (le-leb _ _ (c .if1 .taken))
+returns c = simp (le-leb 255 (c .before .args .cov) (omega arith))
 
 product : (c : tie.Else1) → c .before .args .a * c .before .args .cov ≤ 255 * c .before .args .cov
 product c = mul-le-mul-right (c .before .args .cov) (omega arith)
@@ -25,7 +25,7 @@ part255-requires c κs = omega (arith, product c)
 
 returns-2 : tie.Need-returns-2
 unfolding coveredBy
-returns-2 c = simp (lt-leb _ _ (c .before .if1 .left), c .part255 .ensures)
+returns-2 c = simp (lt-leb 255 (c .before .before .args .cov) (omega arith), c .part255 .ensures)
 
 pub covered-spec : {M : Type 1} → statement M
 covered-spec = tie.close (tie.spec returns mul-part255 add-part255 part255-requires returns-2)

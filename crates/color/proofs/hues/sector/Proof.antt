@@ -1,6 +1,10 @@
 -- `color::hues::sector` meets its contract. Assumes nothing.
+use mathlib.Core.Path.{_≡_, sym, _∙_}
+use Prim.Native.Nat.{ℕ, _<_}
 use lib.Dec.{lit<}
-use mathlib.Core.Path.{sym, _∙_}
+use lib.IntN.{pos}
+use mir.Syntax.{w32}
+use mir.Val.{ofZ}
 use Rattle.color.specs.Colours.{sectorOf}
 use Rattle.color.proofs.Sectors.{sector-is, sector-last}
 use borrow.Author.Needs.{needs}
@@ -25,25 +29,28 @@ tones-requires-5 c κs = search needs
 tones-requires-6 : tie.Need-tones-requires-6
 tones-requires-6 c κs = search needs
 
+is : (c : tie.Start) (n : ℕ) → n < 2147483648 → ofZ w32 (c .args .i) ≡ n → c .args .i ≡ pos n
+is c n = sector-is (c .args .i) n (c .fits .i .sfits)
+
 returns : tie.Need-returns
 unfolding sectorOf
-returns c = c .tones .ensures ∙ rw (sector-is (c .before .before .args .i) 0 (c .before .before .fits .i .sfits) (lit< tt) (c .before .match .keys1))
+returns c = c .tones .ensures ∙ rw (is (c .before .before) 0 (lit< tt) (c .before .match .keys1))
 
 returns-2 : tie.Need-returns-2
 unfolding sectorOf
-returns-2 c = c .tones2 .ensures ∙ rw (sector-is (c .before .before .args .i) 1 (c .before .before .fits .i .sfits) (lit< tt) (c .before .match .keys2))
+returns-2 c = c .tones2 .ensures ∙ rw (is (c .before .before) 1 (lit< tt) (c .before .match .keys2))
 
 returns-3 : tie.Need-returns-3
 unfolding sectorOf
-returns-3 c = c .tones3 .ensures ∙ rw (sector-is (c .before .before .args .i) 2 (c .before .before .fits .i .sfits) (lit< tt) (c .before .match .keys3))
+returns-3 c = c .tones3 .ensures ∙ rw (is (c .before .before) 2 (lit< tt) (c .before .match .keys3))
 
 returns-4 : tie.Need-returns-4
 unfolding sectorOf
-returns-4 c = c .tones4 .ensures ∙ rw (sector-is (c .before .before .args .i) 3 (c .before .before .fits .i .sfits) (lit< tt) (c .before .match .keys4))
+returns-4 c = c .tones4 .ensures ∙ rw (is (c .before .before) 3 (lit< tt) (c .before .match .keys4))
 
 returns-5 : tie.Need-returns-5
 unfolding sectorOf
-returns-5 c = c .tones5 .ensures ∙ rw (sector-is (c .before .before .args .i) 4 (c .before .before .fits .i .sfits) (lit< tt) (c .before .match .keys5))
+returns-5 c = c .tones5 .ensures ∙ rw (is (c .before .before) 4 (lit< tt) (c .before .match .keys5))
 
 returns-6 : tie.Need-returns-6
 returns-6 c =

@@ -1,4 +1,4 @@
--- `mathf::convert::to_i32` meets its contract, by the laws of `Saturate` at 31 bits and a sign. A signed local holds bits, so each use of one reads it back (`toZ w (ofZ w z)`). Assumes nothing.
+-- `mathf::convert::to_i32` meets its contract, by the laws of `Saturating` at 31 bits and a sign. A signed local holds bits, so each use of one reads it back (`toZ w (ofZ w z)`). Assumes nothing.
 use mathlib.Core.Path.{_≡_, _∙_}
 use lib.Dec.{lit≤}
 use lib.Ieee.{ofBits, neg, toSigned}

@@ -1,4 +1,4 @@
--- `mathf::convert::to_u32` meets its contract, by the laws of `Saturate` at 23 and 32 bits. Assumes nothing.
+-- `mathf::convert::to_u32` meets its contract, by the laws of `Saturating` at 23 and 32 bits. Assumes nothing.
 use mathlib.Core.Path.{sym, _∙_}
 use lib.Dec.{lit≤}
 use lib.Ieee.{ofBits, neg}

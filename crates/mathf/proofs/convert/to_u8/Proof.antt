@@ -1,4 +1,4 @@
--- `mathf::convert::to_u8` meets its contract, by the laws of `Saturate` at 8 bits. Assumes nothing.
+-- `mathf::convert::to_u8` meets its contract, by the laws of `Saturating` at 8 bits. Assumes nothing.
 use mathlib.Core.Path.{_∙_}
 use lib.Dec.{lit≤}
 use lib.Ieee.{ofBits, neg}

@@ -1,4 +1,4 @@
--- `mathf::convert::to_usize` meets its contract, by the laws of `Saturate` at 23 and 64 bits. Assumes nothing.
+-- `mathf::convert::to_usize` meets its contract, by the laws of `Saturating` at 23 and 64 bits. Assumes nothing.
 use mathlib.Core.Path.{sym, _∙_}
 use borrow.Author.Needs.{needs}
 use lib.Dec.{lit≤}

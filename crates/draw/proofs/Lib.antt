@@ -1,0 +1,5 @@
+-- The laws of drawing that belong to no one function.
+pub mod Onto
+pub mod Rows
+pub mod Loops
+pub mod Clips

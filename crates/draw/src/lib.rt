@@ -1,0 +1,41 @@
+// Drawing into lent pixels, in rows of a pitch: the definitions are in specs/, the laws of its loops in proofs/. No public call.
+use geom::IRect;
+use geom::nat_of;
+ghost use mathlib.Core.Path.{_≡_};
+ghost use Rattle.draw.specs.Areas.{areaOf, clipTo};
+
+// A half-open box of pixels within the canvas: columns x0 up to x1, rows y0 up to y1.
+pub struct Area {
+    pub x0: usize,
+    pub y0: usize,
+    pub x1: usize,
+    pub y1: usize,
+}
+
+// A box as an area, its negative sides raised to 0.
+pub fn area_of(b: IRect) -> Area
+    ensures { λ r. ⌜ r ≡ areaOf b ⌝ }
+{
+    Area {
+        x0: nat_of(b.x0),
+        y0: nat_of(b.y0),
+        x1: nat_of(b.x1),
+        y1: nat_of(b.y1),
+    }
+}
+
+// What a clip lets through of a shape's reach: four zeros where that is empty.
+pub fn clipped(reach: IRect, clip: IRect) -> Area
+    ensures { λ r. ⌜ r ≡ clipTo reach clip ⌝ }
+{
+    let b = reach.intersect(clip);
+    if b.is_empty() {
+        return Area {
+            x0: 0,
+            y0: 0,
+            x1: 0,
+            y1: 0,
+        };
+    }
+    area_of(b)
+}

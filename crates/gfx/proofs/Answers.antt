@@ -1,0 +1,52 @@
+-- What a call returns that tests its number and returns early: for its contract, by whether the number is 0. m is the number as the code has
+-- it, n its definition. Assumes nothing.
+use mathlib.Core.Path.{_≡_, refl, sym, _∙_}
+use mathlib.Core.Bool.{Bool, true, false}
+use mathlib.Core.List.{List}
+use Prim.Native.Nat.{ℕ, suc}
+use native.Mathlib.Omega.{arith}
+use borrow.Author.Tests.{eq-eqb, ne-eqb}
+use lib.Dec.{eqb}
+use Rattle.gfx.specs.Calls.{unless, answer, left, Called, pixelAnswer}
+use Rattle.gfx.specs.declared.Canvas.{Canvas}
+use Rattle.gfx.specs.declared.Done.{Done}
+use Rattle.color.specs.declared.Pixel.{Pixel}
+
+-- a number other than 0 is not 0
+refused : {A : Type 0} {n : ℕ} → suc n ≡ 0 → A
+refused e = absurd (never e)
+  where
+    never : {n : ℕ} → suc n ≡ 0 → ⊥
+    never e = omega arith
+
+-- a test before a number that is 0 held, and so does what follows
+pub passed : (t : Bool) (n rest : ℕ) → unless t (suc n) rest ≡ 0 → (t ≡ true) × (rest ≡ 0)
+passed true n rest e = (refl, e)
+passed false n rest e = refused e
+
+module _ {n m : ℕ} (e : m ≡ n) where
+  module _ (k : m ≡ 0 → ⊥) where
+    pub refused-state : (given next : Canvas) → _≡_ {A = Done} (record { number = m; canvas = given }) (answer n given next)
+    unfolding answer
+    refused-state given next = rw (← e, ne-eqb m 0 k)
+
+    pub refused-pixel : (v : ℕ) → _≡_ {A = Pixel} (record { number = m; value = 0 }) (pixelAnswer n v)
+    unfolding pixelAnswer
+    refused-pixel v = rw (← e, ne-eqb m 0 k)
+
+    pub refused-call : {given next : Canvas} {px drawn : List ℕ} → Called n given next px drawn (record { number = m; canvas = given }) px
+    unfolding left
+    refused-call = record { answers = refused-state _ _; paints = rw (← e, ne-eqb m 0 k) }
+
+  module _ (z : m ≡ 0) where
+    pub accepted-state : (given next : Canvas) → _≡_ {A = Done} (record { number = m; canvas = next }) (answer n given next)
+    unfolding answer
+    accepted-state given next = rw (← e, eq-eqb m 0 z)
+
+    pub accepted-pixel : (v : ℕ) → _≡_ {A = Pixel} (record { number = m; value = v }) (pixelAnswer n v)
+    unfolding pixelAnswer
+    accepted-pixel v = rw (← e, eq-eqb m 0 z)
+
+    pub accepted-call : {given next : Canvas} {px drawn : List ℕ} → Called n given next px drawn (record { number = m; canvas = next }) drawn
+    unfolding left
+    accepted-call = record { answers = accepted-state _ _; paints = rw (← e, eq-eqb m 0 z) }

@@ -1,0 +1,139 @@
+-- Pushing and popping a clip leave a state sound: valid, with its 16 places. Assumes nothing.
+use mathlib.Core.Path.{_≡_, refl, sym, _∙_}
+use mathlib.Core.Bool.{true, cond, or-true}
+use mathlib.Core.Logic.{⊎-elim}
+use Prim.Native.Nat.{ℕ, _+_, _-_, _<_, _≤_}
+use native.Mathlib.Nat.{eq-or-lt-of-le}
+use native.Mathlib.Omega.{arith}
+use borrow.Author.Tests.{leb-false, ltb-true, ltb-false, eqb-false, le-leb, lt-ltb, le-ltb}
+use lib.Dec.{leb, ltb, eqb}
+use lib.IntN.{ℤ, pos}
+use lib.ListN.{length, length-set, getD-replicate}
+use lib.Seq.{getD-set-same, getD-set-other}
+use Rattle.geom.proofs.Bools.{split}
+use Rattle.geom.proofs.Int.{orderZ, le-leZ}
+use Rattle.geom.specs.declared.IRect.{IRect}
+use Rattle.geom.specs.Box.{boxOf, empty, noBox}
+use Rattle.gfx.proofs.Places.{places-at, places-all}
+use Rattle.gfx.proofs.Valid.{clip-meet, valid-of, of-valid, valid-depth}
+use Rattle.gfx.specs.State.{inCanvas, rangeIn, sideOk, clipOk, bothZero, fourZeros, savedAt, placeOk, validOf, freshOf, pushed, unsaved, popped}
+use Rattle.gfx.specs.declared.Canvas.{Canvas}
+
+pub record Sound (c : Canvas) : Type 0 where
+  pub valid : validOf c ≡ true
+  pub sized : length (c .saved) ≡ 16
+
+-- ---- a place in use, and a free one
+
+used : (c : Canvas) (i : ℕ) → i < c .depth → placeOk c i ≡ clipOk (c .w) (c .h) (savedAt c i)
+unfolding placeOk
+used c i h = rw (lt-ltb i (c .depth) h)
+
+free : (c : Canvas) (i : ℕ) → c .depth ≤ i → placeOk c i ≡ fourZeros (savedAt c i)
+unfolding placeOk
+free c i h = rw (le-ltb i (c .depth) h)
+
+-- two numbers are below, equal or above
+order : {A : Type 0} (i d : ℕ) → (i < d → A) → (i ≡ d → A) → (d < i → A) → A
+order {A} i d below here above =
+    split (ltb i d) (λ t. A) (λ e. below (ltb-true i d e))
+    (λ e. ⊎-elim (λ q. here (sym q)) above (eq-or-lt-of-le (ltb-false i d e)))
+
+-- ---- push
+
+module _ (c : Canvas) (b : IRect) (s : Sound c) (room : c .depth < 16) where
+  push-place : (i : ℕ) → i < 16 → placeOk (pushed c b) i ≡ true
+  unfolding pushed
+  push-place i h =
+      let v = valid-of c (s .valid) in
+      let k = places-at c 16 (v .places) i h in
+      order i (c .depth)
+      (λ l. used (pushed c b) i (omega arith) ∙ rw (getD-set-other (c .saved) (c .depth) i (c .clip) noBox (λ e. omega arith)) (sym (used c i l) ∙ k))
+      (λ q. used (pushed c b) i (omega arith) ∙ rw (q, getD-set-same (c .saved) (c .depth) (c .clip) noBox (omega arith)) (v .clip))
+      (λ g. free (pushed c b) i (omega arith) ∙ rw (getD-set-other (c .saved) (c .depth) i (c .clip) noBox (λ e. omega arith)) (sym (free c i (omega arith)) ∙ k))
+
+  pub push-sound : Sound (pushed c b)
+  unfolding pushed
+  push-sound =
+      let v = valid-of c (s .valid) in
+      record {
+        valid =
+            of-valid (pushed c b)
+            (record {
+              side-w = v .side-w;
+              side-h = v .side-h;
+              deep = le-leb (c .depth + 1) 16 (omega arith);
+              clip = clip-meet (c .w) (c .h) (c .clip) b (v .clip);
+              places = places-all (pushed c b) 16 push-place;
+            });
+        sized = length-set (c .saved) (c .depth) (c .clip) ∙ s .sized;
+      }
+
+-- ---- pop
+
+module _ (c : Canvas) (s : Sound c) (some : 0 < c .depth) where
+  last : c .depth - 1 < c .depth
+  last = omega arith
+
+  unsave-place : (i : ℕ) → i < 16 → placeOk (unsaved c) i ≡ true
+  unfolding unsaved fourZeros bothZero noBox
+  unsave-place i h =
+      let v = valid-of c (s .valid) in
+      let k = places-at c 16 (v .places) i h in
+      order i (c .depth - 1)
+      (λ l. used (unsaved c) i (omega arith) ∙ rw (getD-set-other (c .saved) (c .depth - 1) i noBox noBox (λ e. omega arith)) (sym (used c i (omega arith)) ∙ k))
+      (λ q. free (unsaved c) i (omega arith) ∙ rw (q, getD-set-same (c .saved) (c .depth - 1) noBox noBox (omega arith)))
+      (λ g. free (unsaved c) i (omega arith) ∙ rw (getD-set-other (c .saved) (c .depth - 1) i noBox noBox (λ e. omega arith)) (sym (free c i (omega arith)) ∙ k))
+
+  pub unsave-sound : Sound (unsaved c)
+  unfolding unsaved
+  unsave-sound =
+      let v = valid-of c (s .valid) in
+      let d = valid-depth c (s .valid) in
+      record {
+        valid =
+            of-valid (unsaved c)
+            (record {
+              side-w = v .side-w;
+              side-h = v .side-h;
+              deep = le-leb (c .depth - 1) 16 (omega arith);
+              clip = sym (used c (c .depth - 1) (omega arith)) ∙ places-at c 16 (v .places) (c .depth - 1) (omega arith);
+              places = places-all (unsaved c) 16 unsave-place;
+            });
+        sized = length-set (c .saved) (c .depth - 1) noBox ∙ s .sized;
+      }
+
+-- with nothing saved a pop does nothing
+pub pop-sound : (c : Canvas) → Sound c → Sound (popped c)
+unfolding popped
+pop-sound c s =
+    split (eqb (c .depth) 0) (λ t. Sound (cond t c (unsaved c))) (λ e. s)
+    (λ e. unsave-sound c s (omega (arith, eqb-false (c .depth) 0 e)))
+
+-- ---- a canvas that is made anew
+
+module _ (w h : ℤ) (p : sideOk w ≡ true) (q : sideOk h ≡ true) where
+  whole : clipOk w h (boxOf (pos 0) (pos 0) w h) ≡ true
+  unfolding clipOk inCanvas rangeIn
+  whole =
+      rw (le-leZ w w (omega arith), le-leZ h h (omega arith)) (or-true (empty (boxOf (pos 0) (pos 0) w h)))
+
+  fresh-place : (i : ℕ) → i < 16 → placeOk (freshOf w h) i ≡ true
+  unfolding freshOf fourZeros bothZero noBox
+  fresh-place i l = free (freshOf w h) i (omega arith) ∙ rw (getD-replicate 16 i noBox noBox l)
+
+  pub fresh-sound : Sound (freshOf w h)
+  unfolding freshOf
+  fresh-sound =
+      record {
+        valid =
+            of-valid (freshOf w h)
+            (record {
+              side-w = p;
+              side-h = q;
+              deep = refl;
+              clip = whole;
+              places = places-all (freshOf w h) 16 fresh-place;
+            });
+        sized = refl;
+      }

@@ -1,0 +1,103 @@
+-- The canvas calls (document 01, "Number and item returned"): for each its number, 0 where it is accepted, and by that number the
+-- state that it returns and the pixels that it leaves. The tests stand in the document's order, 12, 2, 8, 6, 7.
+use mathlib.Core.Bool.{Bool, cond, _&&_}
+use mathlib.Core.List.{List}
+use mathlib.Core.Path.{_≡_}
+use Prim.Native.Nat.{ℕ, _+_, _*_, _-_}
+use lib.Dec.{ltb, eqb}
+use lib.IntN.{ℤ, pos}
+use lib.ListN.{length, getD, replicate}
+use Rattle.geom.specs.Int.{up, maxZ, eqZ}
+use Rattle.geom.specs.Box.{boxOf, noBox}
+use Rattle.geom.specs.Plane.{rectOk}
+use Rattle.geom.specs.declared.IRect.{IRect}
+use Rattle.geom.specs.declared.Rect.{Rect}
+use Rattle.color.specs.declared.Pixel.{Pixel}
+use Rattle.gfx.specs.State.{sideOk, validOf, freshOf}
+use Rattle.gfx.specs.declared.Canvas.{Canvas}
+use Rattle.gfx.specs.declared.Done.{Done}
+use Rattle.gfx.specs.declared.Boxed.{Boxed}
+
+-- ---- answers
+
+-- n is given where the test fails, and what follows decides where it holds
+abbrev pub unless : Bool → ℕ → ℕ → ℕ
+unless ok n rest = cond ok rest n
+
+-- the number n and the state: the next one where the call is accepted, the given one where it is refused
+unfoldable pub answer : ℕ → Canvas → Canvas → Done
+answer n given next = record { number = n; canvas = cond (eqb n 0) next given }
+
+-- the pixels that a call leaves: unaltered where it is refused
+unfoldable pub left : ℕ → List ℕ → List ℕ → List ℕ
+left n px drawn = cond (eqb n 0) drawn px
+
+-- a box, four zeros beside a refusal; and a pixel, 0 beside a refusal
+unfoldable pub boxAnswer : ℕ → IRect → Boxed
+boxAnswer n b = record { number = n; area = cond (eqb n 0) b noBox }
+
+unfoldable pub pixelAnswer : ℕ → ℕ → Pixel
+pixelAnswer n v = record { number = n; value = cond (eqb n 0) v 0 }
+
+-- what a call that is lent px promises: of its number, the given state, the next one, px as it came and as it is drawn
+pub record Called (n : ℕ) (given next : Canvas) (px drawn : List ℕ) (r : Done) (px′ : List ℕ) : Type 0 where
+  pub answers : r ≡ answer n given next
+  pub paints : px′ ≡ left n px drawn
+
+-- ---- sizes
+
+-- the count of pixels
+abbrev pub areaOf : ℤ → ℤ → ℕ
+areaOf w h = up w * up h
+
+-- a side below 1 is raised to 1
+abbrev pub raised : ℤ → ℤ
+raised n = maxZ n (pos 1)
+
+-- 2 for a side outside 1 to 2,048, then 8 for a count of pixels that is not w × h
+unfoldable pub sizeNumber : ℤ → ℤ → ℕ → ℕ
+sizeNumber w h n = unless (sideOk w && sideOk h) 2 (unless (eqb n (areaOf w h)) 8 0)
+
+-- `new`: the sides raised, px zeros
+abbrev pub newNumber : ℤ → ℤ → ℕ → ℕ
+newNumber w h n = sizeNumber (raised w) (raised h) n
+
+-- `resize`: 12 first, then as `new`; to the same size it alters nothing
+unfoldable pub resizeNumber : Canvas → ℤ → ℤ → ℕ → ℕ
+resizeNumber c w h n = unless (validOf c) 12 (sizeNumber (raised w) (raised h) n)
+
+unfoldable pub sameSize : Canvas → ℤ → ℤ → Bool
+sameSize c w h = eqZ (c .w) (raised w) && eqZ (c .h) (raised h)
+
+unfoldable pub resized : Canvas → ℤ → ℤ → Canvas
+resized c w h = cond (sameSize c w h) c (freshOf (raised w) (raised h))
+
+unfoldable pub resizedPx : Canvas → ℤ → ℤ → List ℕ → List ℕ
+resizedPx c w h px = cond (sameSize c w h) px (replicate (length px) 0)
+
+-- ---- clips
+
+abbrev pub stateNumber : Canvas → ℕ
+stateNumber c = unless (validOf c) 12 0
+
+-- `push_clip_i` takes any box: 12, then 7 with 16 saved
+unfoldable pub pushBoxNumber : Canvas → ℕ
+pushBoxNumber c = unless (validOf c) 12 (unless (ltb (c .depth) 16) 7 0)
+
+-- `push_clip`: 12, 6 for a float that is not finite or past 8,192, then 7
+unfoldable pub pushNumber : Canvas → Rect → ℕ
+pushNumber c r = unless (validOf c) 12 (unless (rectOk r) 6 (unless (ltb (c .depth) 16) 7 0))
+
+-- ---- pixels
+
+-- a call on n lent pixels: 12, then 8
+unfoldable pub pxNumber : Canvas → ℕ → ℕ
+pxNumber c n = unless (validOf c) 12 (unless (eqb n (areaOf (c .w) (c .h))) 8 0)
+
+-- the number of 0 to n - 1 that is nearest to x
+unfoldable pub nearestIn : ℤ → ℤ → ℕ
+nearestIn n x = cond (ltb (up x) (up n)) (up x) (up n - 1)
+
+-- `get`: the pixel at x and y, each brought to the nearest inside
+unfoldable pub pixelAt : Canvas → List ℕ → ℤ → ℤ → ℕ
+pixelAt c px x y = getD px (nearestIn (c .h) y * up (c .w) + nearestIn (c .w) x) 0

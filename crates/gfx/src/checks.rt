@@ -1,0 +1,84 @@
+// The tests behind the numbers of the canvas calls.
+use geom::IRect;
+use geom::max_i;
+use geom::nat_of;
+ghost use mathlib.Core.Path.{_≡_};
+ghost use mathlib.Core.Bool.{true};
+ghost use Rattle.gfx.specs.State.{sideOk, rangeIn, inCanvas, clipOk, bothZero, fourZeros};
+ghost use Rattle.gfx.specs.Calls.{areaOf, raised, sizeNumber, newNumber};
+
+// A side is 1 to 2,048.
+pub(crate) fn side_ok(n: i32) -> bool
+    ensures { λ r. ⌜ r ≡ sideOk n ⌝ }
+{
+    1 <= n && n <= 2048
+}
+
+// A range lies in 0 to n.
+fn range_in(a: i32, b: i32, n: i32) -> bool
+    ensures { λ r. ⌜ r ≡ rangeIn a b n ⌝ }
+{
+    0 <= a && b <= n
+}
+
+// A box lies in a canvas of the sides w and h.
+fn in_canvas(w: i32, h: i32, b: IRect) -> bool
+    ensures { λ r. ⌜ r ≡ inCanvas w h b ⌝ }
+{
+    range_in(b.x0, b.x1, w) && range_in(b.y0, b.y1, h)
+}
+
+// A clip is empty or inside the canvas.
+pub(crate) fn clip_ok(w: i32, h: i32, b: IRect) -> bool
+    ensures { λ r. ⌜ r ≡ clipOk w h b ⌝ }
+{
+    b.is_empty() || in_canvas(w, h, b)
+}
+
+fn both_zero(a: i32, b: i32) -> bool
+    ensures { λ r. ⌜ r ≡ bothZero a b ⌝ }
+{
+    a == 0 && b == 0
+}
+
+// An unused place holds four zeros.
+pub(crate) fn four_zeros(b: IRect) -> bool
+    ensures { λ r. ⌜ r ≡ fourZeros b ⌝ }
+{
+    both_zero(b.x0, b.y0) && both_zero(b.x1, b.y1)
+}
+
+// The count of pixels of a canvas.
+pub(crate) fn area(w: i32, h: i32) -> usize
+    requires { ⌜ (sideOk w ≡ true) × (sideOk h ≡ true) ⌝ }
+    ensures { λ r. ⌜ r ≡ areaOf w h ⌝ }
+{
+    nat_of(w) * nat_of(h)
+}
+
+// A side below 1 is raised to 1.
+pub(crate) fn raise(n: i32) -> i32
+    ensures { λ r. ⌜ r ≡ raised n ⌝ }
+{
+    max_i(n, 1)
+}
+
+// The number that sides and a count of pixels are refused with, or 0.
+fn size_number(w: i32, h: i32, n: usize) -> u32
+    ensures { λ r. ⌜ r ≡ sizeNumber w h n ⌝ }
+{
+    if !side_ok(w) {
+        return 2;
+    }
+    if !side_ok(h) {
+        return 2;
+    }
+    if n == area(w, h) { 0 } else { 8 }
+}
+
+// The same of the sides raised.
+pub(crate) fn new_number(w: i32, h: i32, n: usize) -> u32
+    ensures { λ r. ⌜ r ≡ newNumber w h n ⌝ }
+{
+    size_number(raise(w), raise(h), n)
+}

@@ -1,0 +1,390 @@
+// The canvas: its state, the calls on its clips and pixels, and what its shapes share. A state goes in by value and comes back
+// beside a number; px is lent. A refused call returns the given state and alters nothing.
+mod checks;
+pub mod paints;
+
+use crate::checks::area;
+use crate::checks::clip_ok;
+use crate::checks::four_zeros;
+use crate::checks::new_number;
+use crate::checks::raise;
+use crate::checks::side_ok;
+pub use crate::paints::Paint;
+pub use crate::paints::cov8;
+pub use crate::paints::rrect_sd;
+use color::Color;
+use color::Pixel;
+use geom::IRect;
+use geom::Rect;
+use geom::nat_of;
+ghost use mathlib.Core.Path.{_≡_};
+ghost use Prim.Native.Nat.{_<_, _≤_};
+ghost use lib.ListN.{length, replicate};
+ghost use Rattle.geom.specs.Plane.{outerOf};
+ghost use Rattle.geom.specs.Box.{boxOf};
+ghost use Rattle.color.specs.Colours.{pixOf};
+ghost use lib.IntN.{pos};
+ghost use Rattle.gfx.specs.State.{placeOk, placesOk, frameOk, validOf, freshOf, pushed, unsaved, popped};
+ghost use Rattle.gfx.specs.Calls.{Called, answer, boxAnswer, pixelAnswer, raised, newNumber, resizeNumber, sameSize, resized, resizedPx, stateNumber, pushBoxNumber, pushNumber, pxNumber, nearestIn, pixelAt};
+
+// A canvas without its pixels: its sides, its clip, and up to 16 saved clips, of which `depth` are in use.
+pub struct Canvas {
+    pub w: i32,
+    pub h: i32,
+    pub clip: IRect,
+    pub saved: [IRect; 16],
+    pub depth: usize,
+}
+
+// What a call on a canvas returns: its number, 0 where it is accepted, and the state.
+pub struct Done {
+    pub number: u32,
+    pub canvas: Canvas,
+}
+
+// A box that a call returns, beside its number.
+pub struct Boxed {
+    pub number: u32,
+    pub area: IRect,
+}
+
+// Every pixel set to one value.
+fn fill(px: &mut [u32], v: u32)
+    ensures { λ _. ⌜ now (px .exit) ≡ replicate (length (now (px .entry))) v ⌝ }
+{
+    for i in 0..px.len() {
+        px[i] = v;
+    }
+}
+
+// The number of 0 to n - 1 that is nearest to x.
+fn nearest_in(n: i32, x: i32) -> usize
+    ensures { λ r. ⌜ r ≡ nearestIn n x ⌝ }
+{
+    let k = nat_of(n);
+    let i = nat_of(x);
+    if i < k {
+        return i;
+    }
+    if 0 < k { k - 1 } else { 0 }
+}
+
+impl Canvas {
+    // A canvas with all of it as clip and nothing saved.
+    fn fresh(w: i32, h: i32) -> Canvas
+        ensures { λ r. ⌜ r ≡ freshOf w h ⌝ }
+    {
+        let clip = IRect::new(0, 0, w, h);
+        let zero = IRect::ZERO;
+        let saved = [zero; 16];
+        Canvas {
+            w,
+            h,
+            clip,
+            saved,
+            depth: 0,
+        }
+    }
+
+    // The place i of the saved clips: a clip where it is in use, else four zeros.
+    fn place_ok(self, i: usize) -> bool
+        requires { ⌜ i < 16 ⌝ }
+        ensures { λ r. ⌜ r ≡ placeOk self i ⌝ }
+    {
+        let saved = self.saved;
+        let b = saved[i];
+        if i < self.depth {
+            clip_ok(self.w, self.h, b)
+        } else {
+            four_zeros(b)
+        }
+    }
+
+    // Whether each place of the saved clips is all right.
+    fn places_ok(self) -> bool
+        ensures { λ r. ⌜ r ≡ placesOk self 16 ⌝ }
+    {
+        for i in 0..16 {
+            if !self.place_ok(i) {
+                return false;
+            }
+        }
+        true
+    }
+
+    // Whether the sides, the depth and the clip are all right.
+    fn frame_ok(self) -> bool
+        ensures { λ r. ⌜ r ≡ frameOk self ⌝ }
+    {
+        if !side_ok(self.w) {
+            return false;
+        }
+        if !side_ok(self.h) {
+            return false;
+        }
+        if 16 < self.depth {
+            return false;
+        }
+        clip_ok(self.w, self.h, self.clip)
+    }
+
+    // Whether a state is one that a canvas can be in: refusal 12 is given for any other.
+    pub fn valid(self) -> bool
+        ensures { λ r. ⌜ r ≡ validOf self ⌝ }
+    {
+        self.frame_ok() && self.places_ok()
+    }
+
+    // The number that a call on n lent pixels is refused with before it looks at its own arguments, or 0.
+    pub fn px_number(self, n: usize) -> u32
+        ensures { λ r. ⌜ r ≡ pxNumber self n ⌝ }
+    {
+        if !self.valid() {
+            return 12;
+        }
+        if n == area(self.w, self.h) { 0 } else { 8 }
+    }
+
+    // The number that `resize` is refused with, or 0.
+    fn resize_number(self, w: i32, h: i32, n: usize) -> u32
+        ensures { λ r. ⌜ r ≡ resizeNumber self w h n ⌝ }
+    {
+        if self.valid() {
+            new_number(w, h, n)
+        } else {
+            12
+        }
+    }
+
+    // The number that `push_clip_i` is refused with, or 0.
+    fn push_box_number(self) -> u32
+        ensures { λ r. ⌜ r ≡ pushBoxNumber self ⌝ }
+    {
+        if !self.valid() {
+            return 12;
+        }
+        if self.depth < 16 { 0 } else { 7 }
+    }
+
+    // The number that `push_clip` is refused with, or 0.
+    fn push_number(self, r: Rect) -> u32
+        ensures { λ n. ⌜ n ≡ pushNumber self r ⌝ }
+    {
+        if !self.valid() {
+            return 12;
+        }
+        if !r.in_range() {
+            return 6;
+        }
+        if self.depth < 16 { 0 } else { 7 }
+    }
+
+    // A new canvas with the sides raised.
+    fn blank(w: i32, h: i32) -> Canvas
+        ensures { λ r. ⌜ r ≡ freshOf (raised w) (raised h) ⌝ }
+    {
+        Canvas::fresh(raise(w), raise(h))
+    }
+
+    // Whether the canvas has the sides w and h, raised.
+    fn same_size(self, w: i32, h: i32) -> bool
+        ensures { λ r. ⌜ r ≡ sameSize self w h ⌝ }
+    {
+        let a = self.w;
+        let b = self.h;
+        a == raise(w) && b == raise(h)
+    }
+
+    // The clip saved, and cut to a box.
+    fn push(self, b: IRect) -> Canvas
+        requires { ⌜ self .depth < 16 ⌝ }
+        ensures { λ r. ⌜ r ≡ pushed self b ⌝ }
+    {
+        let depth = self.depth;
+        let clip = self.clip;
+        let mut saved = self.saved;
+        saved[depth] = clip;
+        Canvas {
+            w: self.w,
+            h: self.h,
+            clip: clip.intersect(b),
+            saved,
+            depth: depth + 1,
+        }
+    }
+
+    // Back to the clip saved last; its place holds zeros again.
+    fn unsave(self) -> Canvas
+        requires { ⌜ (0 < self .depth) × (self .depth ≤ 16) ⌝ }
+        ensures { λ r. ⌜ r ≡ unsaved self ⌝ }
+    {
+        let d = self.depth - 1;
+        let mut saved = self.saved;
+        let clip = saved[d];
+        saved[d] = IRect::new(0, 0, 0, 0);
+        Canvas {
+            w: self.w,
+            h: self.h,
+            clip,
+            saved,
+            depth: d,
+        }
+    }
+
+    // A new canvas, whose pixels are zeros. A side below 1 is raised to 1.
+    pub fn new(w: i32, h: i32, px: &mut [u32]) -> Done
+        ensures { λ r. ⌜ Called (newNumber w h (length (now (px .entry)))) (freshOf (pos 0) (pos 0)) (freshOf (raised w) (raised h)) (now (px .entry)) (replicate (length (now (px .entry))) 0) r (now (px .exit)) ⌝ }
+    {
+        let number = new_number(w, h, px.len());
+        if number != 0 {
+            return Done {
+                number,
+                canvas: Canvas::fresh(0, 0),
+            };
+        }
+        fill(px, 0);
+        Done {
+            number,
+            canvas: Canvas::blank(w, h),
+        }
+    }
+
+    // Another size, whose pixels are zeros; the same size alters nothing. A side below 1 is raised to 1.
+    pub fn resize(self, w: i32, h: i32, px: &mut [u32]) -> Done
+        ensures { λ r. ⌜ Called (resizeNumber self w h (length (now (px .entry)))) self (resized self w h) (now (px .entry)) (resizedPx self w h (now (px .entry))) r (now (px .exit)) ⌝ }
+    {
+        let number = self.resize_number(w, h, px.len());
+        if number != 0 {
+            return Done {
+                number,
+                canvas: self,
+            };
+        }
+        if self.same_size(w, h) {
+            return Done {
+                number,
+                canvas: self,
+            };
+        }
+        fill(px, 0);
+        Done {
+            number,
+            canvas: Canvas::blank(w, h),
+        }
+    }
+
+    // The whole canvas.
+    pub fn bounds(self) -> Boxed
+        ensures { λ r. ⌜ r ≡ boxAnswer (stateNumber self) (boxOf (pos 0) (pos 0) (self .w) (self .h)) ⌝ }
+    {
+        if self.valid() {
+            Boxed {
+                number: 0,
+                area: IRect::new(0, 0, self.w, self.h),
+            }
+        } else {
+            Boxed {
+                number: 12,
+                area: IRect::new(0, 0, 0, 0),
+            }
+        }
+    }
+
+    // The clip.
+    pub fn clip(self) -> Boxed
+        ensures { λ r. ⌜ r ≡ boxAnswer (stateNumber self) (self .clip) ⌝ }
+    {
+        if self.valid() {
+            let area = self.clip;
+            Boxed { number: 0, area }
+        } else {
+            Boxed {
+                number: 12,
+                area: IRect::new(0, 0, 0, 0),
+            }
+        }
+    }
+
+    // Save the clip, and cut it to the pixels around a rectangle.
+    pub fn push_clip(self, r: Rect) -> Done
+        ensures { λ d. ⌜ d ≡ answer (pushNumber self r) self (pushed self (outerOf r)) ⌝ }
+    {
+        let number = self.push_number(r);
+        if number != 0 {
+            return Done {
+                number,
+                canvas: self,
+            };
+        }
+        let canvas = self.push(IRect::from_rect_outer(r));
+        Done { number, canvas }
+    }
+
+    // Save the clip, and cut it to a box.
+    pub fn push_clip_i(self, b: IRect) -> Done
+        ensures { λ d. ⌜ d ≡ answer (pushBoxNumber self) self (pushed self b) ⌝ }
+    {
+        let number = self.push_box_number();
+        if number != 0 {
+            return Done {
+                number,
+                canvas: self,
+            };
+        }
+        let canvas = self.push(b);
+        Done { number, canvas }
+    }
+
+    // Go back to the clip saved last; with nothing saved, nothing happens.
+    pub fn pop_clip(self) -> Done
+        ensures { λ d. ⌜ d ≡ answer (stateNumber self) self (popped self) ⌝ }
+    {
+        if !self.valid() {
+            return Done {
+                number: 12,
+                canvas: self,
+            };
+        }
+        if self.depth == 0 {
+            return Done {
+                number: 0,
+                canvas: self,
+            };
+        }
+        let canvas = self.unsave();
+        Done { number: 0, canvas }
+    }
+
+    // Every pixel set to a colour, whatever the clip.
+    pub fn clear(self, px: &mut [u32], c: Color) -> Done
+        ensures { λ r. ⌜ Called (pxNumber self (length (now (px .entry)))) self self (now (px .entry)) (replicate (length (now (px .entry))) (pixOf c)) r (now (px .exit)) ⌝ }
+    {
+        let number = self.px_number(px.len());
+        if number != 0 {
+            return Done {
+                number,
+                canvas: self,
+            };
+        }
+        fill(px, c.pix());
+        Done {
+            number,
+            canvas: self,
+        }
+    }
+
+    // The pixel at x and y, each brought to the nearest inside.
+    pub fn get(self, px: &[u32], x: i32, y: i32) -> Pixel
+        ensures { λ r. ⌜ r ≡ pixelAnswer (pxNumber self (length (now (px .entry)))) (pixelAt self (now (px .entry)) x y) ⌝ }
+    {
+        let number = self.px_number(px.len());
+        if number != 0 {
+            return Pixel { number, value: 0 };
+        }
+        let at = nearest_in(self.h, y) * nat_of(self.w) + nearest_in(self.w, x);
+        Pixel {
+            number,
+            value: px[at],
+        }
+    }
+}
