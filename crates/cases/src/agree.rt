@@ -2,12 +2,12 @@
 use crate::answer;
 use crate::boxes;
 use crate::boxes::Four;
+use crate::canvas;
+use crate::canvas::irect;
+use crate::canvas::rect;
 use crate::word::float_of;
-use crate::word::int_of;
 use crate::word::pair;
 use crate::word::word;
-use geom::IRect;
-use geom::Rect;
 ghost use Prim.Native.Nat.{_^_, _<_, _≤_};
 
 pub const MATHF: u32 = 0;
@@ -16,14 +16,17 @@ pub const COLOR: u32 = 1;
 
 pub const GEOM: u32 = 2;
 
+pub const CANVAS: u32 = 3;
+
 // How many words a case of an area has.
 pub fn width(area: u32) -> u32
-    ensures { λ r. ⌜ r ≤ 16 ⌝ }
+    ensures { λ r. ⌜ r ≤ 157 ⌝ }
 {
     match area {
         0 => 6,
         1 => 8,
-        _ => 13,
+        2 => 13,
+        _ => 157,
     }
 }
 
@@ -51,26 +54,6 @@ fn color(bytes: &[u8], at: u32) -> bool
     r == pair(word(bytes, at + 6), word(bytes, at + 7))
 }
 
-fn rect(bytes: &[u8], at: u32) -> Rect
-    requires { ⌜ at < 2 ^ 31 ⌝ }
-{
-    let x = float_of(word(bytes, at));
-    let y = float_of(word(bytes, at + 1));
-    let w = float_of(word(bytes, at + 2));
-    let h = float_of(word(bytes, at + 3));
-    Rect::new(x, y, w, h)
-}
-
-fn irect(bytes: &[u8], at: u32) -> IRect
-    requires { ⌜ at < 2 ^ 31 ⌝ }
-{
-    let x0 = int_of(word(bytes, at));
-    let y0 = int_of(word(bytes, at + 1));
-    let x1 = int_of(word(bytes, at + 2));
-    let y1 = int_of(word(bytes, at + 3));
-    IRect::new(x0, y0, x1, y1)
-}
-
 fn geom_answer(f: u32, bytes: &[u8], at: u32) -> Four
     requires { ⌜ at < 2 ^ 30 ⌝ }
 {
@@ -92,7 +75,7 @@ fn geom(bytes: &[u8], at: u32) -> bool
 
 // A case past the end of the bytes, which reads as zeros, agrees with nothing.
 pub fn agrees(area: u32, bytes: &[u8], at: u32) -> bool
-    requires { ⌜ at < 2 ^ 29 ⌝ }
+    requires { ⌜ at < 2 ^ 27 ⌝ }
 {
     if word(bytes, at) == 0 {
         return false;
@@ -100,6 +83,7 @@ pub fn agrees(area: u32, bytes: &[u8], at: u32) -> bool
     match area {
         0 => mathf(bytes, at),
         1 => color(bytes, at),
-        _ => geom(bytes, at),
+        2 => geom(bytes, at),
+        _ => canvas::agrees(bytes, at),
     }
 }

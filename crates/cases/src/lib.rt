@@ -4,9 +4,11 @@
 pub mod agree;
 pub mod answer;
 pub mod boxes;
+mod canvas;
 pub mod report;
 pub mod word;
 
+pub use crate::agree::CANVAS;
 pub use crate::agree::COLOR;
 pub use crate::agree::GEOM;
 pub use crate::agree::MATHF;

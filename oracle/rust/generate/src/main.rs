@@ -1,6 +1,7 @@
 //! Writes what the replay programs read and must print: crates/replay_*/stdin and stdout below the folder given.
 use std::{env, fs, path::Path};
 
+mod canvas;
 mod color;
 mod geom;
 mod mathf;
@@ -38,4 +39,5 @@ fn main() {
     mathf::stored().write(&folder("replay_mathf"));
     color::stored().write(&folder("replay_color"));
     geom::stored().write(&folder("replay_geom"));
+    canvas::stored().write(&folder("replay_canvas"));
 }

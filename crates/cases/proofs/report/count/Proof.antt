@@ -1,11 +1,11 @@
--- `cases::report::count` is safe and ends: no count is above the number of cases passed, and a case has at most 16 words. Assumes nothing.
+-- `cases::report::count` is safe and ends: no count is above the number of cases passed, and a case has at most 157 words. Assumes nothing.
 use Prim.Native.Nat.{_+_, _*_, _-_, _≤_, _<_}
 use borrow.Author.Needs.{needs}
 use Rattle.cases.proofs.report.count.Statement.{statement}
 use Rattle.cases.proofs.report.count.Tie as tie
 
 abbrev Inv-loop : tie.InvT-loop
-Inv-loop bytes area f n w ran₀ differ₀ at₀ i₀ ran differ at i = (i ≤ n) × (n < 65536) × (w ≤ 16) × (ran ≤ i) × (differ ≤ i) × (at ≤ 1 + 16 * i)
+Inv-loop bytes area f n w ran₀ differ₀ at₀ i₀ ran differ at i = (i ≤ n) × (n < 65536) × (w ≤ 157) × (ran ≤ i) × (differ ≤ i) × (at ≤ 1 + 157 * i)
 
 abbrev μ-loop : tie.MeasureT-loop
 μ-loop bytes area f n w ran₀ differ₀ at₀ i₀ ran differ at i = n - i

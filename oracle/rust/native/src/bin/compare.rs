@@ -1,6 +1,7 @@
 //! The proved leaf functions against the unchanged Rust: `whole` takes every f32 where a function has one input, else random cases by
 //! the ten million; `short` takes some hundred thousand. Exit status 1 where any answer differs.
 use answers::{
+    canvas::{Walk, WIDTH},
     color, geom, mathf, pattern,
     random::{Random, SEED},
 };
@@ -170,6 +171,12 @@ fn geom_cases(run: &mut Run, random: &mut Random) {
     }
 }
 
+/// A walk from state to state.
+fn canvas_cases(run: &mut Run, random: &mut Random) {
+    let mut walk = Walk::new(Random(random.next()), 4, 4);
+    run.stored("canvas calls", 3, WIDTH, || walk.step());
+}
+
 fn main() {
     let whole = match env::args().nth(1).as_deref() {
         Some("whole") => true,
@@ -183,6 +190,7 @@ fn main() {
     mathf_cases(&mut run, &mut random);
     color_cases(&mut run, &mut random);
     geom_cases(&mut run, &mut random);
+    canvas_cases(&mut run, &mut random);
     println!("comparison with the Rust: {} cases, {} differences", run.cases, run.differ);
     if run.differ > 0 {
         exit(1);
