@@ -1,7 +1,9 @@
 -- Drawing under a clip is drawing in an area.
 --     in-area       a box holds the pixels that its area holds
+--     in-columns    signed ends of a range of columns, as natural ones
 --     in-clip       a pixel is in what the clip lets through where it is in the reach and in the clip
 --     drawn-clip    a shape drawn under a clip is drawn in what the clip lets through
+--     shape-at      one pixel of what a shape leaves
 --     clip-fits     what a clip that is empty or inside the canvas lets through lies within px
 -- Assumes nothing.
 use mathlib.Core.Path.{_≡_, refl, sym, ap, _∙_}
@@ -9,22 +11,30 @@ use mathlib.Core.Bool.{Bool, true, false, cond, _&&_}
 use mathlib.Core.List.{List}
 use mathlib.Core.Logic.{_⊎_, ⊎-elim}
 use Prim.Native.Nat.{ℕ, _*_, _/_, _%_, _≤_, _<_}
+use lib.ListN.{length, getD}
 use native.Mathlib.Nat.{mul-le-mul-right, zero-mul}
 use native.Mathlib.Omega.{arith}
-use lib.IntN.{pos}
+use lib.IntN.{ℤ, pos}
 use Rattle.geom.specs.declared.IRect.{IRect}
 use Rattle.geom.specs.Box.{boxOf, inside, meet, empty}
 use Rattle.geom.proofs.Bools.{split}
-use Rattle.geom.proofs.Int.{orderZ}
+use Rattle.geom.specs.Int.{up}
+use Rattle.geom.proofs.Int.{orderZ, le-up, lt-up}
 use Rattle.geom.proofs.Boxes.{in-pixel, in-meet, in-empty, Within, meet-right, cut-in, holds-full, within-nat}
 use Rattle.draw.specs.declared.Area.{Area}
-use Rattle.draw.specs.Draw.{onto, meets, drawn}
+use Rattle.draw.specs.Draw.{meets, drawn, inColumns}
 use Rattle.draw.specs.Areas.{within, area, inArea, areaOf, drawnIn, clipTo, AreaFits}
+use Rattle.draw.proofs.Onto.{length-onto, getD-onto}
 use Rattle.draw.proofs.Rows.{within-none}
 
 pub in-area : (b : IRect) (x y : ℕ) → inside b (pos x) (pos y) ≡ inArea (areaOf b) x y
 unfolding within
 in-area b x y = in-pixel b x y
+
+-- signed ends of a range of columns are as good as natural ones
+pub in-columns : (a b : ℤ) (x : ℕ) → inColumns a b x ≡ within (up a) (up b) x
+unfolding inColumns within
+in-columns a b x = rw (le-up a x, lt-up x b)
 
 -- ---- what a clip lets through
 
@@ -84,3 +94,14 @@ clip-fits pitch w h n reach clip ok p q r s =
           wide = omega arith;
           high = omega arith;
         }
+
+-- ---- one pixel of what a shape leaves: it depends on the old value, the column and the row, and on the clip by whether it holds the pixel alone
+pub length-shape : (pitch : ℕ) (clip reach : IRect) (ink : ℕ → ℕ → ℕ → ℕ) (px : List ℕ) → length (drawn pitch clip reach ink px) ≡ length px
+unfolding drawn
+length-shape pitch clip reach ink px = length-onto (λ i. meets clip reach (i % pitch) (i / pitch)) (λ i p. ink (i % pitch) (i / pitch) p) px
+
+pub shape-at : (pitch : ℕ) (clip reach : IRect) (ink : ℕ → ℕ → ℕ → ℕ) (px : List ℕ) (k : ℕ) → k < length px
+    → getD (drawn pitch clip reach ink px) k 0
+    ≡ cond (meets clip reach (k % pitch) (k / pitch)) (ink (k % pitch) (k / pitch) (getD px k 0)) (getD px k 0)
+unfolding drawn
+shape-at pitch clip reach ink px k h = getD-onto (λ i. meets clip reach (i % pitch) (i / pitch)) (λ i p. ink (i % pitch) (i / pitch) p) px k h

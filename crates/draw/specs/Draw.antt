@@ -2,7 +2,8 @@
 use mathlib.Core.Bool.{Bool, cond, _&&_}
 use mathlib.Core.List.{List, [], _∷_}
 use Prim.Native.Nat.{ℕ, suc, _/_, _%_}
-use lib.IntN.{pos}
+use lib.IntN.{ℤ, pos}
+use lib.Signed.{leZ, ltZ}
 use Rattle.geom.specs.declared.IRect.{IRect}
 use Rattle.geom.specs.Box.{inside}
 
@@ -23,3 +24,7 @@ meets clip reach x y = inside clip (pos x) (pos y) && inside reach (pos x) (pos 
 -- ink, the new value of a pixel by column, row and old value. A clip lies within the canvas, so words of a row past it are left.
 unfoldable pub drawn : ℕ → IRect → IRect → (ℕ → ℕ → ℕ → ℕ) → List ℕ → List ℕ
 drawn pitch clip reach ink px = onto (λ i. meets clip reach (i % pitch) (i / pitch)) (λ i p. ink (i % pitch) (i / pitch) p) px
+
+-- whether column x is one from a up to b, signed as the Rust has them
+unfoldable pub inColumns : ℤ → ℤ → ℕ → Bool
+inColumns a b x = leZ a (pos x) && ltZ (pos x) b

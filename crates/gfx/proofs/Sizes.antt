@@ -15,7 +15,7 @@ use Rattle.gfx.specs.State.{sideOk, validOf}
 use Rattle.gfx.proofs.Answers.{passed}
 use Rattle.geom.specs.Plane.{rectOk}
 use Rattle.geom.specs.declared.Rect.{Rect}
-use Rattle.gfx.specs.Calls.{areaOf, pxNumber, nearestIn, pushBoxNumber, pushNumber}
+use Rattle.gfx.specs.Calls.{unless, areaOf, pxNumber, shapeNumber, nearestIn, pushBoxNumber, pushNumber}
 use Rattle.gfx.specs.declared.Canvas.{Canvas}
 
 pub area-small : (w h : ℤ) → sideOk w ≡ true → sideOk h ≡ true → areaOf w h ≤ 4194304
@@ -63,3 +63,29 @@ push-room c r e =
     let v = passed (validOf c) 11 _ e in
     let f = passed (rectOk r) 5 _ (v .1) in
     ltb-true (c .depth) 16 (passed (ltb (c .depth) 16) 6 0 (f .1) .0)
+
+-- ---- shape calls: the number by the tests of state and px, and then by that of the floats
+
+pub shape-refused : (c : Canvas) (n : ℕ) (ok : Bool) {m : ℕ} → m ≡ pxNumber c n → (m ≡ 0 → ⊥) → m ≡ shapeNumber c n ok
+unfolding pxNumber shapeNumber
+shape-refused c n ok {m} e k = go (validOf c) (eqb n (areaOf (c .w) (c .h))) e
+  where
+    go : (v t : Bool) → m ≡ unless v 12 (unless t 8 0) → m ≡ unless v 12 (unless t 8 (unless ok 6 0))
+    go true true e = absurd (k e)
+    go true false e = e
+    go false t e = e
+
+pub shape-passed : (c : Canvas) (n : ℕ) (ok : Bool) → pxNumber c n ≡ 0 → unless ok 6 0 ≡ shapeNumber c n ok
+unfolding pxNumber shapeNumber
+shape-passed c n ok e =
+    let v = passed (validOf c) 11 _ e in
+    let t = passed (eqb n (areaOf (c .w) (c .h))) 7 0 (v .1) in
+    rw (v .0, t .0)
+
+-- a shape call that is not refused
+pub shape-open : (c : Canvas) (n : ℕ) (ok : Bool) → shapeNumber c n ok ≡ 0 → Open c n
+unfolding shapeNumber
+shape-open c n ok e =
+    let v = passed (validOf c) 11 _ e in
+    let k = passed (eqb n (areaOf (c .w) (c .h))) 7 _ (v .1) in
+    record { valid = v .0; count = eqb-true _ _ (k .0) }

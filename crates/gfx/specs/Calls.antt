@@ -1,5 +1,5 @@
 -- The canvas calls (document 01, "Number and item returned"): for each its number, 0 where it is accepted, and by that number the
--- state that it returns and the pixels that it leaves. The tests stand in the document's order, 12, 2, 8, 6, 7.
+-- state that it returns and the pixels that it leaves. The tests stand in the document's order, 12, 2, 8, 13, 6, 7, 9.
 use mathlib.Core.Bool.{Bool, cond, _&&_}
 use mathlib.Core.List.{List}
 use mathlib.Core.Path.{_≡_}
@@ -101,3 +101,7 @@ nearestIn n x = cond (ltb (up x) (up n)) (up x) (up n - 1)
 -- `get`: the pixel at x and y, each brought to the nearest inside
 unfoldable pub pixelAt : Canvas → List ℕ → ℤ → ℤ → ℕ
 pixelAt c px x y = getD px (nearestIn (c .h) y * up (c .w) + nearestIn (c .w) x) 0
+
+-- a shape call on n lent pixels, by whether the floats given are finite and within 8,192 of 0: 12, 8, then 6
+unfoldable pub shapeNumber : Canvas → ℕ → Bool → ℕ
+shapeNumber c n floatsOk = unless (validOf c) 12 (unless (eqb n (areaOf (c .w) (c .h))) 8 (unless floatsOk 6 0))

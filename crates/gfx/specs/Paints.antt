@@ -2,14 +2,16 @@
 use mathlib.Core.Bool.{Bool, true, cond, _&&_}
 use Prim.Native.Nat.{ℕ}
 use lib.Ieee.{Float}
-use Rattle.mathf.specs.F32.{_+ᶠ_, _-ᶠ_, _*ᶠ_, _/ᶠ_, _<ᶠ_, f0, f½, f255, f1e-3}
-use Rattle.mathf.specs.Order.{maxOf, fabsOf, saturateOf}
+use Rattle.mathf.specs.F32.{_+ᶠ_, _-ᶠ_, _*ᶠ_, _/ᶠ_, _<ᶠ_, ofℕᶠ, f0, f½, f255, f1e-3}
+use Rattle.mathf.specs.Order.{minOf, maxOf, fabsOf, saturateOf}
 use Rattle.mathf.specs.Convert.{toU32}
 use Rattle.mathf.specs.Root.{sqrtOf}
 use Rattle.geom.specs.declared.Pt.{Pt}
-use Rattle.geom.specs.Plane.{floatOk, ptOk}
+use Rattle.geom.specs.declared.Rect.{Rect}
+use Rattle.geom.specs.Plane.{rightOf, bottomOf, cxOf, cyOf, floatOk, ptOk}
 use Rattle.color.specs.declared.Color.{Color}
 use Rattle.color.specs.Colours.{mixOf}
+use Rattle.gfx.specs.declared.paints.Rounded.{Rounded}
 use Rattle.gfx.specs.declared.paints.Paint.{Paint}
 use Rattle.gfx.specs.declared.paints.Paint.the-variants.{Solid, VGrad, Linear, Radial}
 
@@ -43,6 +45,14 @@ paintOk (VGrad y0 y1 c0 c1) = floatOk y0 && floatOk y1
 paintOk (Linear p0 p1 c0 c1) = ptOk p0 && ptOk p1
 paintOk (Radial c r c0 c1) = ptOk c && floatOk r
 
+-- the centre of column or row i, where a paint or a distance is sampled
+abbrev pub centreOf : ℕ → Float
+centreOf i = ofℕᶠ i +ᶠ f½
+
+-- the radius of a rectangle's corners: r, at most half of each side and at least 0
+unfoldable pub radiusOf : Rect → Float → Float
+radiusOf rect r = maxOf (minOf (minOf r (rect .w *ᶠ f½)) (rect .h *ᶠ f½)) f0
+
 -- `rrect_sd`: the signed distance of a point to a rounded rectangle, negative inside
 unfoldable pub cornerSd : Float → Float → Float → Float
 cornerSd qx qy r =
@@ -50,6 +60,24 @@ cornerSd qx qy r =
 
 unfoldable pub rrectSd : Float → Float → Float → Float → Float → Float → Float → Float
 rrectSd px py cx cy hw hh r = cornerSd (fabsOf (px -ᶠ cx) -ᶠ (hw -ᶠ r)) (fabsOf (py -ᶠ cy) -ᶠ (hh -ᶠ r)) r
+
+-- a rectangle with rounded corners, as the distance and the rows of a shape ask for it
+abbrev pub roundedOf : Rect → Float → Rounded
+roundedOf rect r =
+    record {
+      cx = cxOf rect;
+      cy = cyOf rect;
+      hw = rect .w *ᶠ f½;
+      hh = rect .h *ᶠ f½;
+      r = radiusOf rect r;
+      left = rect .x;
+      right = rightOf rect;
+      top = rect .y;
+      bottom = bottomOf rect;
+    }
+
+abbrev pub roundedSd : Rounded → Float → Float → Float
+roundedSd s x y = rrectSd x y (s .cx) (s .cy) (s .hw) (s .hh) (s .r)
 
 -- `cov8`: the coverage, 0 to 255, of a pixel whose centre lies at the signed distance d of an edge
 unfoldable pub cov8Of : Float → ℕ

@@ -10,7 +10,10 @@ use crate::checks::new_number;
 use crate::checks::raise;
 use crate::checks::side_ok;
 pub use crate::paints::Paint;
+pub use crate::paints::Rounded;
+pub use crate::paints::centre;
 pub use crate::paints::cov8;
+pub use crate::paints::radius;
 pub use crate::paints::rrect_sd;
 use color::Color;
 use color::Pixel;
@@ -25,7 +28,7 @@ ghost use Rattle.geom.specs.Box.{boxOf};
 ghost use Rattle.color.specs.Colours.{pixOf};
 ghost use lib.IntN.{pos};
 ghost use Rattle.gfx.specs.State.{placeOk, placesOk, frameOk, validOf, freshOf, pushed, unsaved, popped};
-ghost use Rattle.gfx.specs.Calls.{Called, answer, boxAnswer, pixelAnswer, raised, newNumber, resizeNumber, sameSize, resized, resizedPx, stateNumber, pushBoxNumber, pushNumber, pxNumber, nearestIn, pixelAt};
+ghost use Rattle.gfx.specs.Calls.{Called, answer, boxAnswer, pixelAnswer, raised, newNumber, resizeNumber, sameSize, resized, resizedPx, stateNumber, pushBoxNumber, pushNumber, pxNumber, shapeNumber, nearestIn, pixelAt};
 
 // A canvas without its pixels: its sides, its clip, and up to 16 saved clips, of which `depth` are in use.
 pub struct Canvas {
@@ -143,6 +146,17 @@ impl Canvas {
             return 12;
         }
         if n == area(self.w, self.h) { 0 } else { 8 }
+    }
+
+    // The same of a shape call, by whether the floats given are finite and within 8,192 of 0.
+    pub fn shape_number(self, n: usize, ok: bool) -> u32
+        ensures { λ r. ⌜ r ≡ shapeNumber self n ok ⌝ }
+    {
+        let number = self.px_number(n);
+        if number != 0 {
+            return number;
+        }
+        if ok { 0 } else { 6 }
     }
 
     // The number that `resize` is refused with, or 0.

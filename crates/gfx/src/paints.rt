@@ -1,12 +1,13 @@
 // Paints, coverage and distances: one f32 operation after another, in the order of gfx.rs.
 use color::Color;
 use geom::Pt;
+use geom::Rect;
 use geom::float_ok;
 ghost use mathlib.Core.Path.{_≡_};
 ghost use mathlib.Core.Bool.{_&&_};
 ghost use Rattle.geom.specs.Plane.{floatOk, ptOk};
 ghost use Rattle.mathf.specs.F32.{_<ᶠ_, f0};
-ghost use Rattle.gfx.specs.Paints.{alongDown, alongLine, alongRadius, paintAt, paintOk, cornerSd, rrectSd, cov8Of};
+ghost use Rattle.gfx.specs.Paints.{alongDown, alongLine, alongRadius, paintAt, paintOk, centreOf, radiusOf, cornerSd, rrectSd, roundedOf, roundedSd, cov8Of};
 
 // What a shape is filled with.
 pub enum Paint {
@@ -110,6 +111,20 @@ impl Paint {
     }
 }
 
+// The centre of column or row i.
+pub fn centre(i: u16) -> f32
+    ensures { λ r. ⌜ r ≡ centreOf i ⌝ }
+{
+    i as f32 + 0.5
+}
+
+// The radius of a rectangle's corners: at most half of each side, at least 0.
+pub fn radius(rect: Rect, r: f32) -> f32
+    ensures { λ t. ⌜ t ≡ radiusOf rect r ⌝ }
+{
+    mathf::max(mathf::min(mathf::min(r, rect.w * 0.5), rect.h * 0.5), 0.0)
+}
+
 fn both_positive(a: f32, b: f32) -> bool
     ensures { λ t. ⌜ t ≡ ((f0 <ᶠ a) && (f0 <ᶠ b)) ⌝ }
 {
@@ -136,6 +151,44 @@ pub fn rrect_sd(px: f32, py: f32, cx: f32, cy: f32, hw: f32, hh: f32, r: f32) ->
     let qx = mathf::fabs(px - cx) - (hw - r);
     let qy = mathf::fabs(py - cy) - (hh - r);
     corner_sd(qx, qy, r)
+}
+
+// A rectangle with rounded corners: its middle, its half sides, its radius and its edges.
+pub struct Rounded {
+    pub cx: f32,
+    pub cy: f32,
+    pub hw: f32,
+    pub hh: f32,
+    pub r: f32,
+    pub left: f32,
+    pub right: f32,
+    pub top: f32,
+    pub bottom: f32,
+}
+
+impl Rounded {
+    pub fn of(rect: Rect, r: f32) -> Rounded
+        ensures { λ s. ⌜ s ≡ roundedOf rect r ⌝ }
+    {
+        Rounded {
+            cx: rect.cx(),
+            cy: rect.cy(),
+            hw: rect.w * 0.5,
+            hh: rect.h * 0.5,
+            r: radius(rect, r),
+            left: rect.x,
+            right: rect.right(),
+            top: rect.y,
+            bottom: rect.bottom(),
+        }
+    }
+
+    // The signed distance of a point, negative inside.
+    pub fn sd(self, x: f32, y: f32) -> f32
+        ensures { λ d. ⌜ d ≡ roundedSd self x y ⌝ }
+    {
+        rrect_sd(x, y, self.cx, self.cy, self.hw, self.hh, self.r)
+    }
 }
 
 // The coverage, 0 to 255, of a pixel whose centre lies at a signed distance of an edge.
