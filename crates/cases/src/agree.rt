@@ -5,6 +5,7 @@ use crate::boxes::Four;
 use crate::canvas;
 use crate::canvas::irect;
 use crate::canvas::rect;
+use crate::paints;
 use crate::word::float_of;
 use crate::word::pair;
 use crate::word::word;
@@ -18,6 +19,8 @@ pub const GEOM: u32 = 2;
 
 pub const CANVAS: u32 = 3;
 
+pub const PAINT: u32 = 4;
+
 // How many words a case of an area has.
 pub fn width(area: u32) -> u32
     ensures { λ r. ⌜ r ≤ 157 ⌝ }
@@ -26,7 +29,8 @@ pub fn width(area: u32) -> u32
         0 => 6,
         1 => 8,
         2 => 13,
-        _ => 157,
+        3 => 157,
+        _ => 10,
     }
 }
 
@@ -84,6 +88,7 @@ pub fn agrees(area: u32, bytes: &[u8], at: u32) -> bool
         0 => mathf(bytes, at),
         1 => color(bytes, at),
         2 => geom(bytes, at),
-        _ => canvas::agrees(bytes, at),
+        3 => canvas::agrees(bytes, at),
+        _ => paints::agrees(bytes, at),
     }
 }

@@ -40,7 +40,7 @@ pub(crate) fn color_of(w: u32) -> Color {
     )
 }
 
-fn color_word(c: Color) -> u32 {
+pub(crate) fn color_word(c: Color) -> u32 {
     c.r as u32 + 256 * (c.g as u32) + 65536 * (c.b as u32) + 16777216 * (c.a as u32)
 }
 

@@ -5,6 +5,7 @@ pub mod agree;
 pub mod answer;
 pub mod boxes;
 mod canvas;
+mod paints;
 pub mod report;
 pub mod word;
 
@@ -12,6 +13,7 @@ pub use crate::agree::CANVAS;
 pub use crate::agree::COLOR;
 pub use crate::agree::GEOM;
 pub use crate::agree::MATHF;
+pub use crate::agree::PAINT;
 pub use crate::report::buffer;
 pub use crate::report::differing;
 pub use crate::report::line;

@@ -4,6 +4,7 @@ pub mod canvas;
 pub mod color;
 pub mod geom;
 pub mod mathf;
+pub mod paint;
 pub mod random;
 
 /// A float as it is stored: its bits, every NaN as one pattern, since only the bits of a NaN are free.

@@ -5,6 +5,7 @@ mod canvas;
 mod color;
 mod geom;
 mod mathf;
+mod paint;
 
 /// Cases of one area, in the order of its functions: each is a function's number, its inputs and the Rust's answer.
 struct Stored {
@@ -40,4 +41,5 @@ fn main() {
     color::stored().write(&folder("replay_color"));
     geom::stored().write(&folder("replay_geom"));
     canvas::stored().write(&folder("replay_canvas"));
+    paint::stored().write(&folder("replay_paint"));
 }

@@ -2,7 +2,7 @@
 //! the ten million; `short` takes some hundred thousand. Exit status 1 where any answer differs.
 use answers::{
     canvas::{Walk, WIDTH},
-    color, geom, mathf, pattern,
+    color, geom, mathf, paint, pattern,
     random::{Random, SEED},
 };
 use std::{env, process::exit, time::Instant};
@@ -177,6 +177,31 @@ fn canvas_cases(run: &mut Run, random: &mut Random) {
     run.stored("canvas calls", 3, WIDTH, || walk.step());
 }
 
+/// A float of a paint or a distance: any pattern, or a place on a canvas.
+fn place(random: &mut Random) -> u32 {
+    match random.below(8) {
+        0 => random.word(),
+        _ => random.within(-100.0, 300.0).to_bits(),
+    }
+}
+
+fn paint_cases(run: &mut Run, random: &mut Random) {
+    for f in 1..=paint::NAMES.len() as u32 {
+        run.stored(paint::NAMES[f as usize - 1], 4, 10, || {
+            let mut words: [u32; 8] = core::array::from_fn(|_| place(random));
+            match f {
+                1 => words[0] = random.within(-0.6, 0.6).to_bits(),
+                2 => (),
+                _ => (words[4], words[5]) = (random.word(), random.word()),
+            }
+            let mut case = vec![f];
+            case.extend(words);
+            case.push(paint::answer(f, words));
+            case
+        });
+    }
+}
+
 fn main() {
     let whole = match env::args().nth(1).as_deref() {
         Some("whole") => true,
@@ -190,6 +215,7 @@ fn main() {
     mathf_cases(&mut run, &mut random);
     color_cases(&mut run, &mut random);
     geom_cases(&mut run, &mut random);
+    paint_cases(&mut run, &mut random);
     canvas_cases(&mut run, &mut random);
     println!("comparison with the Rust: {} cases, {} differences", run.cases, run.differ);
     if run.differ > 0 {
