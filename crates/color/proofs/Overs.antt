@@ -1,5 +1,5 @@
 -- Laws of `over` and `overC`. Assumes nothing.
-use mathlib.Core.Path.{_≡_, refl}
+use mathlib.Core.Path.{_≡_, refl, sym, ap, _∙_}
 use Prim.Native.Nat.{ℕ, _≤_}
 use native.Mathlib.Nat.{mul-zero}
 use native.Mathlib.Omega.{arith}
@@ -22,6 +22,9 @@ over-full p c a h = rw (ne-eqb a 0 (λ e. omega arith), le-leb 255 a h)
 pub overC-none : (p : ℕ) (c : Color) → overC p c 0 ≡ p
 unfolding blended coveredBy
 overC-none p c = rw mul-zero
+
+pub overC-idle : (p : ℕ) (c : Color) (cov : ℕ) → cov ≡ 0 → p ≡ overC p c cov
+overC-idle p c cov e = sym (ap (overC p c) e ∙ overC-none p c)
 
 -- a coverage of 255 or more keeps the alpha
 pub overC-full : (p : ℕ) (c : Color) (cov : ℕ) → 255 ≤ cov → overC p c cov ≡ over p c (c .a)

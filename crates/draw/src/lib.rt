@@ -2,6 +2,7 @@
 use geom::IRect;
 use geom::nat_of;
 ghost use mathlib.Core.Path.{_≡_};
+ghost use Prim.Native.Nat.{min, max};
 ghost use Rattle.draw.specs.Areas.{areaOf, clipTo};
 
 // A half-open box of pixels within the canvas: columns x0 up to x1, rows y0 up to y1.
@@ -38,4 +39,23 @@ pub fn clipped(reach: IRect, clip: IRect) -> Area
         };
     }
     area_of(b)
+}
+
+fn larger(a: usize, b: usize) -> usize
+    ensures { λ r. ⌜ r ≡ max a b ⌝ }
+{
+    if a < b { b } else { a }
+}
+
+fn smaller(a: usize, b: usize) -> usize
+    ensures { λ r. ⌜ r ≡ min a b ⌝ }
+{
+    if b < a { b } else { a }
+}
+
+// v brought to hi or below, and then to lo or above.
+pub fn between(v: usize, lo: usize, hi: usize) -> usize
+    ensures { λ r. ⌜ r ≡ max lo (min v hi) ⌝ }
+{
+    larger(lo, smaller(v, hi))
 }

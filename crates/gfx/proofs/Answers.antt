@@ -1,12 +1,11 @@
 -- What a call returns that tests its number and returns early: for its contract, by whether the number is 0. m is the number as the code has
 -- it, n its definition. Assumes nothing.
-use mathlib.Core.Path.{_≡_, refl, sym, _∙_}
+use mathlib.Core.Path.{_≡_, refl}
 use mathlib.Core.Bool.{Bool, true, false}
 use mathlib.Core.List.{List}
 use Prim.Native.Nat.{ℕ, suc}
 use native.Mathlib.Omega.{arith}
 use borrow.Author.Tests.{eq-eqb, ne-eqb}
-use lib.Dec.{eqb}
 use Rattle.gfx.specs.Calls.{unless, answer, left, Called, pixelAnswer}
 use Rattle.gfx.specs.declared.Canvas.{Canvas}
 use Rattle.gfx.specs.declared.Done.{Done}

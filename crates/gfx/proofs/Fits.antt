@@ -1,10 +1,10 @@
 -- What a shape draws on a canvas that is not refused lies within px. Assumes nothing.
-use mathlib.Core.Path.{_≡_, sym, ap, subst, _∙_}
+use mathlib.Core.Path.{_≡_, sym, _∙_}
 use mathlib.Core.Bool.{true}
 use mathlib.Core.Logic.{_⊎_}
-use Prim.Native.Nat.{ℕ, _*_, _≤_}
+use Prim.Native.Nat.{ℕ}
 use native.Mathlib.Nat.{le-refl, le-of-eq, mul-comm}
-use lib.IntN.{ℤ, pos}
+use lib.IntN.{pos}
 use Rattle.geom.specs.declared.IRect.{IRect}
 use Rattle.geom.specs.Int.{up}
 use Rattle.geom.specs.Box.{empty}

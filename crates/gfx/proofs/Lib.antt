@@ -3,5 +3,6 @@ pub mod Places
 pub mod Valid
 pub mod Answers
 pub mod Sizes
+pub mod Coords
 pub mod Kept
 pub mod Fits

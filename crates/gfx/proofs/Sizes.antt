@@ -1,7 +1,7 @@
 -- Sides, counts of pixels and the index of a pixel. Assumes nothing.
-use mathlib.Core.Path.{_≡_, refl, sym}
-use mathlib.Core.Bool.{Bool, true, false, cond, _&&_}
-use Prim.Native.Nat.{ℕ, suc, _+_, _*_, _-_, _<_, _≤_}
+use mathlib.Core.Path.{_≡_}
+use mathlib.Core.Bool.{Bool, true, false, cond}
+use Prim.Native.Nat.{ℕ, _+_, _*_, _-_, _<_, _≤_}
 use native.Mathlib.Nat.{mul-le-mul, mul-comm}
 use native.Mathlib.Omega.{arith}
 use borrow.Author.Tests.{eqb-true, ltb-true}
@@ -64,28 +64,36 @@ push-room c r e =
     let f = passed (rectOk r) 5 _ (v .1) in
     ltb-true (c .depth) 16 (passed (ltb (c .depth) 16) 6 0 (f .1) .0)
 
--- ---- shape calls: the number by the tests of state and px, and then by that of the floats
+-- ---- shape calls: the number by the tests of state and px, and then by the rest
 
-pub shape-refused : (c : Canvas) (n : ℕ) (ok : Bool) {m : ℕ} → m ≡ pxNumber c n → (m ≡ 0 → ⊥) → m ≡ shapeNumber c n ok
-unfolding pxNumber shapeNumber
-shape-refused c n ok {m} e k = go (validOf c) (eqb n (areaOf (c .w) (c .h))) e
-  where
-    go : (v t : Bool) → m ≡ unless v 12 (unless t 8 0) → m ≡ unless v 12 (unless t 8 (unless ok 6 0))
-    go true true e = absurd (k e)
-    go true false e = e
-    go false t e = e
+-- m is the number by state and px; it is that of the whole call where it is not 0, and else the rest decides
+module _ (c : Canvas) (n rest : ℕ) where
+  abbrev before : ℕ
+  before = unless (validOf c) 12 (unless (eqb n (areaOf (c .w) (c .h))) 8 rest)
 
-pub shape-passed : (c : Canvas) (n : ℕ) (ok : Bool) → pxNumber c n ≡ 0 → unless ok 6 0 ≡ shapeNumber c n ok
-unfolding pxNumber shapeNumber
-shape-passed c n ok e =
-    let v = passed (validOf c) 11 _ e in
-    let t = passed (eqb n (areaOf (c .w) (c .h))) 7 0 (v .1) in
-    rw (v .0, t .0)
+  pub px-refused : {m : ℕ} → m ≡ pxNumber c n → (m ≡ 0 → ⊥) → m ≡ before
+  unfolding pxNumber
+  px-refused {m} e k = go (validOf c) (eqb n (areaOf (c .w) (c .h))) e
+    where
+      go : (v t : Bool) → m ≡ unless v 12 (unless t 8 0) → m ≡ unless v 12 (unless t 8 rest)
+      go true true e = absurd (k e)
+      go true false e = e
+      go false t e = e
 
--- a shape call that is not refused
+  pub px-passed : pxNumber c n ≡ 0 → rest ≡ before
+  unfolding pxNumber
+  px-passed e =
+      let v = passed (validOf c) 11 _ e in
+      let t = passed (eqb n (areaOf (c .w) (c .h))) 7 0 (v .1) in
+      rw (v .0, t .0)
+
+  -- a call that is not refused
+  pub px-open : before ≡ 0 → Open c n × (rest ≡ 0)
+  px-open e =
+      let v = passed (validOf c) 11 _ e in
+      let k = passed (eqb n (areaOf (c .w) (c .h))) 7 rest (v .1) in
+      (record { valid = v .0; count = eqb-true _ _ (k .0) }, k .1)
+
 pub shape-open : (c : Canvas) (n : ℕ) (ok : Bool) → shapeNumber c n ok ≡ 0 → Open c n
 unfolding shapeNumber
-shape-open c n ok e =
-    let v = passed (validOf c) 11 _ e in
-    let k = passed (eqb n (areaOf (c .w) (c .h))) 7 _ (v .1) in
-    record { valid = v .0; count = eqb-true _ _ (k .0) }
+shape-open c n ok e = px-open c n (unless ok 6 0) e .0

@@ -8,7 +8,7 @@ use lib.Dec.{ltb, eqb}
 use lib.IntN.{ℤ, pos}
 use lib.ListN.{length, getD, replicate}
 use Rattle.geom.specs.Int.{up, maxZ, eqZ}
-use Rattle.geom.specs.Box.{boxOf, noBox}
+use Rattle.geom.specs.Box.{noBox}
 use Rattle.geom.specs.Plane.{rectOk}
 use Rattle.geom.specs.declared.IRect.{IRect}
 use Rattle.geom.specs.declared.Rect.{Rect}

@@ -2,3 +2,4 @@
 pub mod State
 pub mod Calls
 pub mod Paints
+pub mod Points

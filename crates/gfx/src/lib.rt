@@ -2,6 +2,7 @@
 // beside a number; px is lent. A refused call returns the given state and alters nothing.
 mod checks;
 pub mod paints;
+pub mod points;
 
 use crate::checks::area;
 use crate::checks::clip_ok;
@@ -15,6 +16,8 @@ pub use crate::paints::centre;
 pub use crate::paints::cov8;
 pub use crate::paints::radius;
 pub use crate::paints::rrect_sd;
+pub use crate::points::coords_ok;
+pub use crate::points::points_number;
 use color::Color;
 use color::Pixel;
 use geom::IRect;

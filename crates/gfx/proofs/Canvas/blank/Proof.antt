@@ -1,7 +1,6 @@
 -- `gfx::Canvas::blank` meets its contract. Assumes nothing.
-use mathlib.Core.Path.{_≡_, _∙_}
+use mathlib.Core.Path.{_∙_}
 use Rattle.geom.proofs.Signed.{kept}
-use Rattle.gfx.specs.Calls.{raised}
 use borrow.Author.Needs.{needs}
 use Rattle.gfx.proofs.Canvas.blank.Statement.{statement}
 use Rattle.gfx.proofs.Canvas.blank.Tie as tie

@@ -1,5 +1,5 @@
 -- `gfx::Canvas::same_size` meets its contract. Assumes nothing.
-use mathlib.Core.Path.{_≡_, _∙_, sym}
+use mathlib.Core.Path.{_≡_}
 use Rattle.geom.proofs.Signed.{kept, eq-bits, eq-yes, eq-no}
 use Rattle.gfx.specs.Calls.{raised, sameSize}
 use borrow.Author.Needs.{needs}

@@ -1,5 +1,5 @@
 -- `gfx::checks::new_number` meets its contract. Assumes nothing.
-use mathlib.Core.Path.{_≡_, _∙_}
+use mathlib.Core.Path.{_∙_}
 use Rattle.geom.proofs.Signed.{kept}
 use borrow.Author.Needs.{needs}
 use Rattle.gfx.proofs.checks.new_number.Statement.{statement}

@@ -1,0 +1,33 @@
+-- `line::draw_line` meets its contract. Assumes nothing.
+use mathlib.Core.Path.{sym}
+use borrow.Author.Needs.{needs}
+use Rattle.draw.proofs.Clips.{drawn-clip}
+use Rattle.line.proofs.draw_line.Statement.{statement}
+use Rattle.line.proofs.draw_line.Tie as tie
+
+reach-requires : tie.Need-reach-requires
+reach-requires c κs = search needs
+
+clipped-requires : tie.Need-clipped-requires
+clipped-requires c κs = search needs
+
+segment-of-requires : tie.Need-segment-of-requires
+segment-of-requires c κs = search needs
+
+segment-box-requires : tie.Need-segment-box-requires
+segment-box-requires c κs =
+    let d = c .before .before in
+    rw (d .clipped .ensures, d .before .reach .ensures) (d .before .before .before .pre)
+
+same-length : tie.Need-same-length
+same-length c = search needs
+
+returns : tie.Need-returns
+returns c =
+    let s = c .before .before in
+    let d = s .before .before .before in
+    rw (s .segment-box .ensures, s .before .segment-of .ensures, d .clipped .ensures, d .before .reach .ensures) (sym (drawn-clip _ _ _ _ _))
+
+pub draw-line-spec : {M : Type 1} → statement M
+draw-line-spec =
+    tie.close (tie.spec reach-requires clipped-requires segment-of-requires segment-box-requires same-length returns)

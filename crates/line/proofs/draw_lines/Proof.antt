@@ -1,0 +1,76 @@
+-- `line::draw_lines` meets its contract. The lines up to point i - 1 are drawn. Assumes nothing.
+use mathlib.Core.Path.{_≡_, refl, _∙_, ap}
+use Prim.Native.Nat.{_+_, _≤_, _-_, _/_, max}
+use native.Mathlib.Omega.{arith}
+use lib.ListN.{length}
+use Rattle.line.specs.Polylines.{linesTo, polylined}
+use Rattle.line.proofs.Joints.{length-lines, lines-next}
+use Rattle.line.proofs.draw_lines.Statement.{statement}
+use Rattle.line.proofs.draw_lines.Tie as tie
+
+abbrev Inv-loop : tie.InvT-loop
+Inv-loop px₀ w clip pts width color i₀ i-end px i =
+    (1 ≤ i) × (i ≤ max 1 (length pts / 2)) × (px ≡ linesTo w clip pts width color (i - 1) px₀) × (length px ≡ length px₀)
+
+abbrev μ-loop : tie.MeasureT-loop
+μ-loop px₀ w clip pts width color i₀ i-end px i = length pts / 2 - i
+
+loop-holds : tie.Need-loop-holds Inv-loop μ-loop
+unfolding linesTo
+loop-holds c = (omega arith, omega arith, refl, refl)
+
+sub-point : tie.Need-sub-point Inv-loop μ-loop
+sub-point c = omega arith
+
+point-requires : tie.Need-point-requires Inv-loop μ-loop
+point-requires c κs = omega arith
+
+point-requires-2 : tie.Need-point-requires-2 Inv-loop μ-loop
+point-requires-2 c κs = omega arith
+
+draw-line-requires : tie.Need-draw-line-requires Inv-loop μ-loop
+draw-line-requires c κs =
+    let l = c .before .before .before .before in
+    rw (l .loop .inv .3) (l .before .before .before .pre _)
+
+add-i : tie.Need-add-i Inv-loop μ-loop
+add-i c = omega arith
+
+loop-less : tie.Need-loop-less Inv-loop μ-loop
+loop-less c = omega arith
+
+loop-again : tie.Need-loop-again Inv-loop μ-loop
+loop-again c =
+    let t = c .before .before in
+    let l = t .before .before .before .before .before in
+    let s = l .before .before .before .args in
+    let e : t .draw-line .last .0 ≡ linesTo (s .w) (s .clip) (s .pts .now) (s .width) (s .color) (l .loop .i + 1 - 1) (s .px .now) =
+    rw (t .draw-line .ensures, t .before .before .point .ensures, t .before .point2 .ensures, l .loop .inv .2) (lines-next (s .clip) (s .pts .now) (s .width) (s .color) (s .w) (s .px .now) (l .loop .i) (l .loop .inv .0)) in
+    (omega arith, omega arith, e, ap length e ∙ length-lines (s .clip) (s .pts .now) (s .width) (s .color) (s .w) (s .px .now) _)
+
+same-length : tie.Need-same-length Inv-loop μ-loop
+same-length c = omega arith
+
+returns : tie.Need-returns Inv-loop μ-loop
+unfolding polylined
+returns c =
+    let l = c .before .loop in
+    let e : l .i - 1 ≡ length (c .before .before .before .before .args .pts .now) / 2 - 1 = omega arith in
+    l .inv .2 ∙ rw e
+
+pub draw-lines-spec : {M : Type 1} → statement M
+draw-lines-spec =
+    tie.close
+    (tie.spec
+    Inv-loop
+    μ-loop
+    loop-holds
+    sub-point
+    point-requires
+    point-requires-2
+    draw-line-requires
+    add-i
+    loop-less
+    loop-again
+    same-length
+    returns)

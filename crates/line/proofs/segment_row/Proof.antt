@@ -1,0 +1,124 @@
+-- `line::segment_row` meets its contract. The columns before x are drawn. Assumes nothing.
+use mathlib.Core.Path.{_≡_, sym, _∙_}
+use Prim.Native.Nat.{_-_}
+use native.Mathlib.Omega.{arith}
+use Rattle.color.proofs.Overs.{overC-none}
+use Rattle.draw.proofs.Loops.{InRow, row-start, row-next, row-pass, row-end}
+use Rattle.gfx.specs.Paints.{centreOf}
+use Rattle.line.specs.Lines.{coverOf, segmentInk}
+use Rattle.line.proofs.segment_row.Statement.{statement}
+use Rattle.line.proofs.segment_row.Tie as tie
+
+abbrev Inv-loop : tie.InvT-loop
+Inv-loop px₀ w y x0 x1 s color row yc x₀ px x = InRow w (segmentInk s color) y x0 x1 px₀ px x
+
+abbrev μ-loop : tie.MeasureT-loop
+μ-loop px₀ w y x0 x1 s color row yc x₀ px x = x1 - x
+
+-- the coverage at column x, by the centres of x and y
+at-centre : (c : tie.After-cover Inv-loop μ-loop) → c .cover .result ≡ coverOf (c .before .before .before .before .before .before .args .s) (centreOf (c .before .before .before .loop .x)) (centreOf (c .before .before .before .before .before .before .args .y))
+at-centre c = c .cover .ensures ∙ rw (c .before .centre2 .ensures, c .before .before .before .before .centre .ensures)
+
+mul-row : tie.Need-mul-row Inv-loop μ-loop
+mul-row c = omega arith
+
+cast-centre : tie.Need-cast-centre Inv-loop μ-loop
+cast-centre c = omega arith
+
+centre-requires : tie.Need-centre-requires Inv-loop μ-loop
+centre-requires c κs = tt
+
+loop-holds : tie.Need-loop-holds Inv-loop μ-loop
+loop-holds c =
+    let args = c .before .before .args in
+    row-start _ (segmentInk (args .s) (args .color)) _ _ _ _ (c .before .before .pre .order)
+
+cast-centre-2 : tie.Need-cast-centre-2 Inv-loop μ-loop
+cast-centre-2 c = omega arith
+
+centre-requires-2 : tie.Need-centre-requires-2 Inv-loop μ-loop
+centre-requires-2 c κs = tt
+
+cover-requires : tie.Need-cover-requires Inv-loop μ-loop
+cover-requires c κs = tt
+
+add-x : tie.Need-add-x Inv-loop μ-loop
+add-x c = omega arith
+
+loop-less : tie.Need-loop-less Inv-loop μ-loop
+loop-less c = omega arith
+
+loop-again : tie.Need-loop-again Inv-loop μ-loop
+unfolding segmentInk
+loop-again c =
+    let turn = c .before .before .before in
+    let loop = turn .before in
+    row-pass (loop .before .before .before .pre) (loop .loop .inv) (turn .loop-test .taken)
+    (rw (sym (at-centre (c .before)) ∙ c .if1 .taken) (sym (overC-none _ _)))
+
+add-i : tie.Need-add-i Inv-loop μ-loop
+add-i c = omega arith
+
+mul-blend-c : tie.Need-mul-blend-c Inv-loop μ-loop
+mul-blend-c c = omega arith
+
+slice-read-blend-c : tie.Need-slice-read-blend-c Inv-loop μ-loop
+slice-read-blend-c c = omega arith
+
+blend-c-requires : tie.Need-blend-c-requires Inv-loop μ-loop
+blend-c-requires c κs = tt
+
+mul-px : tie.Need-mul-px Inv-loop μ-loop
+mul-px c = omega arith
+
+slice-write-px : tie.Need-slice-write-px Inv-loop μ-loop
+slice-write-px c = omega arith
+
+add-x-2 : tie.Need-add-x-2 Inv-loop μ-loop
+add-x-2 c = omega arith
+
+loop-less-2 : tie.Need-loop-less-2 Inv-loop μ-loop
+loop-less-2 c = omega arith
+
+loop-again-2 : tie.Need-loop-again-2 Inv-loop μ-loop
+unfolding segmentInk
+loop-again-2 c =
+    let test = c .before .before .before in
+    let turn = test .before .before in
+    let loop = turn .before in
+    row-next (loop .before .before .before .pre) (loop .loop .inv) (turn .loop-test .taken)
+    (c .blend-c .ensures ∙ rw (at-centre test))
+
+same-length : tie.Need-same-length Inv-loop μ-loop
+same-length c = omega arith
+
+returns : tie.Need-returns Inv-loop μ-loop
+returns c = row-end (c .before .loop .inv) (c .loop-test .left)
+
+pub segment-row-spec : {M : Type 1} → statement M
+segment-row-spec =
+    tie.close
+    (tie.spec
+    Inv-loop
+    μ-loop
+    mul-row
+    cast-centre
+    centre-requires
+    loop-holds
+    cast-centre-2
+    centre-requires-2
+    cover-requires
+    add-x
+    loop-less
+    loop-again
+    add-i
+    mul-blend-c
+    slice-read-blend-c
+    blend-c-requires
+    mul-px
+    slice-write-px
+    add-x-2
+    loop-less-2
+    loop-again-2
+    same-length
+    returns)

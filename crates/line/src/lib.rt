@@ -1,0 +1,183 @@
+// Lines with round ends, as gfx.rs draws them: each pixel by its distance to the segment.
+use color::Color;
+use color::blend_c;
+use draw::Area;
+use draw::clipped;
+use geom::IRect;
+use geom::Pt;
+use geom::Rect;
+use geom::float_ok;
+use geom::nat_of;
+use gfx::Canvas;
+use gfx::Done;
+use gfx::centre;
+use gfx::cov8;
+use gfx::points_number;
+ghost use mathlib.Core.Path.{_≡_};
+ghost use Prim.Native.Nat.{_+_, _/_, _<_};
+ghost use lib.ListN.{length};
+ghost use Rattle.geom.specs.declared.IRect.{IRect};
+ghost use Rattle.geom.specs.Int.{up};
+ghost use Rattle.geom.specs.Plane.{floatOk};
+ghost use Rattle.draw.specs.Draw.{drawn};
+ghost use Rattle.draw.specs.Areas.{area, drawnIn, clipTo, RowFits, AreaFits};
+ghost use Rattle.gfx.specs.Calls.{Called, shapeNumber};
+ghost use Rattle.gfx.specs.Points.{pointsNumber};
+ghost use Rattle.line.specs.Lines.{absOf, lineReach, segmentOf, coverOf, segmentInk, lineInk, lineOk};
+ghost use Rattle.line.specs.Polylines.{pointAt, polylined};
+
+// What the pixels of a line share: its start, its direction, the square of its length and half its width.
+struct Segment {
+    a: Pt,
+    dx: f32,
+    dy: f32,
+    len2: f32,
+    hw: f32,
+}
+
+// The number without its sign: +0 for -0.
+fn abs(x: f32) -> f32
+    ensures { λ r. ⌜ r ≡ absOf x ⌝ }
+{
+    if x < 0.0 {
+        -x
+    } else if x == 0.0 {
+        0.0
+    } else {
+        x
+    }
+}
+
+// The pixels around the segment, half the width and one more on each side.
+fn reach(a: Pt, b: Pt, width: f32) -> IRect
+    ensures { λ r. ⌜ r ≡ lineReach a b width ⌝ }
+{
+    let pad = width * 0.5 + 1.0;
+    let x = mathf::min(a.x, b.x) - pad;
+    let y = mathf::min(a.y, b.y) - pad;
+    let w = abs(a.x - b.x) + 2.0 * pad;
+    let h = abs(a.y - b.y) + 2.0 * pad;
+    IRect::from_rect_outer(Rect { x, y, w, h })
+}
+
+fn segment_of(a: Pt, b: Pt, width: f32) -> Segment
+    ensures { λ r. ⌜ r ≡ segmentOf a b width ⌝ }
+{
+    let dx = b.x - a.x;
+    let dy = b.y - a.y;
+    let len2 = mathf::max(dx * dx + dy * dy, 0.0001);
+    let hw = width * 0.5;
+    Segment {
+        a,
+        dx,
+        dy,
+        len2,
+        hw,
+    }
+}
+
+// The coverage of a pixel by its centre.
+fn cover(s: Segment, xc: f32, yc: f32) -> u32
+    ensures { λ r. ⌜ r ≡ coverOf s xc yc ⌝ }
+{
+    let a = s.a;
+    let t = mathf::saturate(((xc - a.x) * s.dx + (yc - a.y) * s.dy) / s.len2);
+    let px = a.x + s.dx * t - xc;
+    let py = a.y + s.dy * t - yc;
+    let d = mathf::sqrt(px * px + py * py) - s.hw;
+    cov8(d)
+}
+
+// A part of row y.
+fn segment_row(px: &mut [u32], w: usize, y: usize, x0: usize, x1: usize, s: Segment, color: Color)
+    requires { ⌜ RowFits w y x0 x1 (length (now px)) ⌝ }
+    ensures { λ _. ⌜ now (px .exit) ≡ drawnIn w (area x0 y x1 (y + 1)) (segmentInk s color) (now (px .entry)) ⌝ }
+{
+    let row = y * w;
+    let yc = centre(y as u16);
+    for x in x0..x1 {
+        let cv = cover(s, centre(x as u16), yc);
+        if cv == 0 {
+            continue;
+        }
+        let i = row + x;
+        px[i] = blend_c(px[i], color, cv);
+    }
+}
+
+// The pixels of an area, row by row.
+fn segment_box(px: &mut [u32], w: usize, bb: Area, s: Segment, color: Color)
+    requires { ⌜ AreaFits w bb (length (now px)) ⌝ }
+    ensures { λ _. ⌜ now (px .exit) ≡ drawnIn w bb (segmentInk s color) (now (px .entry)) ⌝ }
+{
+    let x0 = bb.x0;
+    let x1 = bb.x1;
+    let y0 = bb.y0;
+    let y1 = bb.y1;
+    for y in y0..y1 {
+        segment_row(px, w, y, x0, x1, s, color);
+    }
+}
+
+// One line under a clip within px.
+fn draw_line(px: &mut [u32], w: usize, clip: IRect, a: Pt, b: Pt, width: f32, color: Color)
+    requires { ⌜ AreaFits w (clipTo (lineReach a b width) clip) (length (now px)) ⌝ }
+    ensures { λ _. ⌜ now (px .exit) ≡ drawn w clip (lineReach a b width) (lineInk a b width color) (now (px .entry)) ⌝ }
+{
+    let bb = clipped(reach(a, b, width), clip);
+    segment_box(px, w, bb, segment_of(a, b, width), color);
+}
+
+fn line_ok(a: Pt, b: Pt, width: f32) -> bool
+    ensures { λ r. ⌜ r ≡ lineOk a b width ⌝ }
+{
+    a.in_range() & b.in_range() & float_ok(width)
+}
+
+// A line between two points.
+pub fn line(canvas: Canvas, px: &mut [u32], a: Pt, b: Pt, width: f32, color: Color) -> Done
+    ensures { λ r. ⌜ Called (shapeNumber canvas (length (now (px .entry))) (lineOk a b width)) canvas canvas (now (px .entry)) (drawn (up (canvas .w)) (canvas .clip) (lineReach a b width) (lineInk a b width color) (now (px .entry))) r (now (px .exit)) ⌝ }
+{
+    let number = canvas.shape_number(px.len(), line_ok(a, b, width));
+    if number != 0 {
+        return Done { number, canvas };
+    }
+    let clip = canvas.clip;
+    draw_line(px, nat_of(canvas.w), clip, a, b, width, color);
+    Done { number, canvas }
+}
+
+// Point i of coordinates x y x y.
+fn point(pts: &[f32], i: usize) -> Pt
+    requires { ⌜ i < length (now pts) / 2 ⌝ }
+    ensures { λ r. ⌜ r ≡ pointAt (now (pts .entry)) i ⌝ }
+{
+    let k = 2 * i;
+    Pt {
+        x: pts[k],
+        y: pts[k + 1],
+    }
+}
+
+// The lines between successive points, under a clip within px.
+fn draw_lines(px: &mut [u32], w: usize, clip: IRect, pts: &[f32], width: f32, color: Color)
+    requires { ⌜ ((reach : IRect) → AreaFits w (clipTo reach clip) (length (now px))) ⌝ }
+    ensures { λ _. ⌜ now (px .exit) ≡ polylined w clip (now (pts .entry)) width color (now (px .entry)) ⌝ }
+{
+    for i in 1..pts.len() / 2 {
+        draw_line(px, w, clip, point(pts, i - 1), point(pts, i), width, color);
+    }
+}
+
+// Lines between successive points, whose coordinates stand one after another.
+pub fn polyline(canvas: Canvas, px: &mut [u32], pts: &[f32], width: f32, color: Color) -> Done
+    ensures { λ r. ⌜ Called (pointsNumber canvas (length (now (px .entry))) (now (pts .entry)) (floatOk width)) canvas canvas (now (px .entry)) (polylined (up (canvas .w)) (canvas .clip) (now (pts .entry)) width color (now (px .entry))) r (now (px .exit)) ⌝ }
+{
+    let number = points_number(canvas, px.len(), pts, float_ok(width));
+    if number != 0 {
+        return Done { number, canvas };
+    }
+    let clip = canvas.clip;
+    draw_lines(px, nat_of(canvas.w), clip, pts, width, color);
+    Done { number, canvas }
+}

@@ -1,0 +1,50 @@
+-- A row of an outline: whole, or its two sides with a gap between. Assumes nothing.
+use mathlib.Core.Path.{_≡_, sym, _∙_}
+use mathlib.Core.List.{List}
+use mathlib.Core.Bool.{Bool, true, false, not, _&&_, cond}
+use Prim.Native.Nat.{ℕ, _+_, _<_, _≤_, min, max}
+use lib.Ieee.{Float}
+use Rattle.mathf.specs.F32.{_+ᶠ_, f1}
+use Rattle.geom.specs.Int.{up}
+use Rattle.color.specs.declared.Color.{Color}
+use Rattle.draw.specs.Draw.{inColumns}
+use Rattle.draw.specs.Areas.{drawnIn, area, within}
+use Rattle.draw.proofs.Rows.{row-same, drawn-idle}
+use Rattle.draw.proofs.Loops.{row-clamped}
+use Rattle.draw.proofs.Clips.{in-columns}
+use Rattle.gfx.specs.declared.paints.Rounded.{Rounded}
+use Rattle.gfx.specs.Paints.{centreOf}
+use Rattle.stroke.specs.Stroke.{fullRow, gapFrom, gapUpto, inGap, bandInk, outlineInk}
+
+module _ (s : Rounded) (width : Float) (c : Color) (y : ℕ) where
+  side : (x p : ℕ) → inGap s width (centreOf y) x ≡ false → bandInk s width c x y p ≡ outlineInk s width c x y p
+  unfolding outlineInk
+  side x p h = rw h
+
+  gap : (x p : ℕ) → inGap s width (centreOf y) x ≡ true → p ≡ outlineInk s width c x y p
+  unfolding outlineInk
+  gap x p h = rw h
+
+  -- a full row has no gap
+  pub full-drawn : (w x0 x1 : ℕ) (px qx : List ℕ) → fullRow s (width +ᶠ f1) (centreOf y) ≡ true
+      → qx ≡ drawnIn w (area x0 y x1 (y + 1)) (bandInk s width c) px → qx ≡ drawnIn w (area x0 y x1 (y + 1)) (outlineInk s width c) px
+  unfolding inGap
+  full-drawn w x0 x1 px qx t d = d ∙ row-same w (bandInk s width c) (outlineInk s width c) px x0 x1 y (λ x p l h. side x p (rw t))
+
+  -- the gap of any other row, by natural numbers
+  gap-is : fullRow s (width +ᶠ f1) (centreOf y) ≡ false → (x : ℕ)
+      → inGap s width (centreOf y) x ≡ within (up (gapFrom s width (centreOf y))) (up (gapUpto s width (centreOf y))) x
+  unfolding inGap
+  gap-is t x = rw t (in-columns (gapFrom s width (centreOf y)) (gapUpto s width (centreOf y)) x)
+
+  pub sides-drawn : (w x0 x1 le rs a b : ℕ) (px px₁ px₂ : List ℕ) → fullRow s (width +ᶠ f1) (centreOf y) ≡ false → x0 ≤ x1
+      → le ≡ up (gapFrom s width (centreOf y)) → rs ≡ up (gapUpto s width (centreOf y))
+      → a ≡ max x0 (min le x1) → b ≡ max a (min rs x1)
+      → px₁ ≡ drawnIn w (area x0 y a (y + 1)) (bandInk s width c) px
+      → px₂ ≡ drawnIn w (area b y x1 (y + 1)) (bandInk s width c) px₁
+      → px₂ ≡ drawnIn w (area x0 y x1 (y + 1)) (outlineInk s width c) px
+  sides-drawn w x0 x1 le rs a b px px₁ px₂ t o el er ea eb d₁ d₂ =
+      row-clamped w (outlineInk s width c) (bandInk s width c) (λ x r p. p) y x0 x1 le rs a b px px₁ px₁ px₂ o ea eb
+      d₁ (drawn-idle w (outlineInk s width c) px₁ (area a y b (y + 1))) d₂
+      (λ x p h. side x p (gap-is t x ∙ rw (← el, ← er) h))
+      (λ x p h. gap x p (gap-is t x ∙ rw (← el, ← er) h))

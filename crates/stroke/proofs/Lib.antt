@@ -1,0 +1,2 @@
+-- The laws of an outline that belong to no one function.
+pub mod Gaps

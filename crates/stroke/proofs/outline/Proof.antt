@@ -1,0 +1,68 @@
+-- `stroke::outline` meets its contract. Assumes nothing.
+use mathlib.Core.Path.{_≡_, _∙_, sym}
+use Rattle.geom.specs.Int.{up}
+use Rattle.geom.proofs.Signed.{kept}
+use Rattle.draw.proofs.Clips.{drawn-clip}
+use Rattle.gfx.proofs.Answers.{refused-call, accepted-call}
+use Rattle.gfx.proofs.Sizes.{shape-open}
+use Rattle.gfx.proofs.Fits.{canvas-fits}
+use borrow.Author.Needs.{needs}
+use Rattle.stroke.proofs.outline.Statement.{statement}
+use Rattle.stroke.proofs.outline.Tie as tie
+
+wide : (c : tie.After-nat-of) → c .nat-of .result ≡ up (c .before .before .before .before .before .args .canvas .w)
+wide c =
+    let w = c .before .before .before .before .before .args .canvas .w in
+    simp (kept w (c .before .struct-told .given .0 .1)) at (c .nat-of .ensures)
+
+shape-number-requires : tie.Need-shape-number-requires
+shape-number-requires c κs = search needs
+
+returns : tie.Need-returns
+returns c = refused-call (c .before .shape-number .ensures) (c .if1 .taken)
+
+nat-of-requires : tie.Need-nat-of-requires
+nat-of-requires c κs = search needs
+
+stroke-reach-requires : tie.Need-stroke-reach-requires
+stroke-reach-requires c κs = search needs
+
+clipped-requires : tie.Need-clipped-requires
+clipped-requires c κs = search needs
+
+of-requires : tie.Need-of-requires
+of-requires c κs = search needs
+
+outline-box-requires : tie.Need-outline-box-requires
+outline-box-requires c κs =
+    let b = c .before .before in
+    let n = b .before .before .before in
+    let d = n .before .before in
+    rw (wide n, b .clipped .ensures) (canvas-fits _ _ _ (shape-open _ _ _ (sym (d .before .shape-number .ensures) ∙ d .if1 .left)))
+
+same-length : tie.Need-same-length
+same-length c = search needs
+
+returns-2 : tie.Need-returns-2
+returns-2 c =
+    let o = c .before .before in
+    let b = o .before .before .before in
+    let n = b .before .before .before in
+    let d = n .before .before in
+    let d′ = rw (wide n, b .clipped .ensures, b .before .stroke-reach .ensures, o .before .of .ensures) at (o .outline-box .ensures) in
+    let e = d′ ∙ sym (drawn-clip _ _ _ _ _) in
+    rw e (accepted-call (d .before .shape-number .ensures) (d .if1 .left))
+
+pub outline-spec : {M : Type 1} → statement M
+outline-spec =
+    tie.close
+    (tie.spec
+    shape-number-requires
+    returns
+    nat-of-requires
+    stroke-reach-requires
+    clipped-requires
+    of-requires
+    outline-box-requires
+    same-length
+    returns-2)

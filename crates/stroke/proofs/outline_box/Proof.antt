@@ -1,0 +1,54 @@
+-- `stroke::outline_box` meets its contract. The rows before y are drawn. Assumes nothing.
+use Prim.Native.Nat.{_-_}
+use native.Mathlib.Omega.{arith}
+use Rattle.stroke.specs.Stroke.{outlineInk}
+use Rattle.draw.proofs.Loops.{InRows, rows-start, rows-next, rows-end, row-fits}
+use Rattle.stroke.proofs.outline_box.Statement.{statement}
+use Rattle.stroke.proofs.outline_box.Tie as tie
+
+abbrev Inv-loop : tie.InvT-loop
+Inv-loop px₀ w s width c x0 x1 y0 y1 y₀ px y = InRows w (outlineInk s width c) x0 x1 y0 y1 px₀ px y
+
+abbrev μ-loop : tie.MeasureT-loop
+μ-loop px₀ w s width c x0 x1 y0 y1 y₀ px y = y1 - y
+
+loop-holds : tie.Need-loop-holds Inv-loop μ-loop
+loop-holds c =
+    let args = c .before .args in
+    rows-start _ (outlineInk (args .s) (args .width) (args .c)) _ _ _ _ _ (c .before .pre .down)
+
+outline-row-requires : tie.Need-outline-row-requires Inv-loop μ-loop
+outline-row-requires c κs =
+    let l = c .before .before in
+    row-fits (l .before .before .pre) (l .loop .inv) (c .before .loop-test .taken)
+
+add-y : tie.Need-add-y Inv-loop μ-loop
+add-y c = omega arith
+
+loop-less : tie.Need-loop-less Inv-loop μ-loop
+loop-less c = omega arith
+
+loop-again : tie.Need-loop-again Inv-loop μ-loop
+loop-again c =
+    let l = c .before .before .before .before .before in
+    rows-next (l .loop .inv) (c .before .before .before .before .loop-test .taken) (c .before .before .outline-row .ensures)
+
+same-length : tie.Need-same-length Inv-loop μ-loop
+same-length c = omega arith
+
+returns : tie.Need-returns Inv-loop μ-loop
+returns c = rows-end (c .before .loop .inv) (c .loop-test .left)
+
+pub outline-box-spec : {M : Type 1} → statement M
+outline-box-spec =
+    tie.close
+    (tie.spec
+    Inv-loop
+    μ-loop
+    loop-holds
+    outline-row-requires
+    add-y
+    loop-less
+    loop-again
+    same-length
+    returns)

@@ -1,0 +1,2 @@
+-- The definitions that stroke's contracts cite.
+pub mod Stroke
