@@ -31,7 +31,7 @@ pub fn mathf(f: u32, a: f32, b: f32, c: f32) -> u64 {
 }
 
 // A colour is stored as the bytes red, green, blue, alpha of a word, the lowest first.
-pub(crate) fn color_of(w: u32) -> Color {
+pub fn color_of(w: u32) -> Color {
     Color::rgba(
         (w % 256) as u8,
         (w / 256 % 256) as u8,

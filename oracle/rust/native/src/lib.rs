@@ -9,6 +9,7 @@ mod raw {
         pub fn leaves_to_usize(xs: *const f32, n: usize, out: *mut usize, m: usize);
         pub fn leaves_to_i32(xs: *const f32, n: usize, out: *mut i32, m: usize);
         pub fn leaves_blend(px: *mut u32, n: usize, r: u8, g: u8, b: u8, a: u8);
+        pub fn leaves_shape(f: u32, words: *const u32, n: usize, px: *mut u32, m: usize) -> u32;
         pub fn leaves_differing(bytes: *const u8, n: usize, area: u32) -> u32;
     }
 }
@@ -46,4 +47,9 @@ pub fn differing(area: u32, width: usize, words: &[u32]) -> u32 {
     let n = (words.len() / width) as u32;
     let bytes: Vec<u8> = [n].iter().chain(words).flat_map(|w| w.to_le_bytes()).collect();
     unsafe { raw::leaves_differing(bytes.as_ptr(), bytes.len(), area) }
+}
+
+/// Draws a shape, and answers its number.
+pub fn shape(f: u32, words: &[u32], px: &mut [u32]) -> u32 {
+    unsafe { raw::leaves_shape(f, words.as_ptr(), words.len(), px.as_mut_ptr(), px.len()) }
 }

@@ -4,6 +4,7 @@ use answers::{
     canvas::{Walk, WIDTH},
     color, geom, mathf, paint, pattern,
     random::{Random, SEED},
+    shape,
 };
 use std::{env, process::exit, time::Instant};
 
@@ -202,6 +203,25 @@ fn paint_cases(run: &mut Run, random: &mut Random) {
     }
 }
 
+/// Shapes on small canvases, every pixel compared.
+fn shapes(run: &mut Run, random: &mut Random) {
+    for f in 1..=shape::NAMES.len() as u32 {
+        let (began, name) = (Instant::now(), shape::NAMES[f as usize - 1]);
+        let (cases, mut differ) = (if run.whole { 1_000_000 } else { 2000 }, 0);
+        for _ in 0..cases {
+            let mut s = shape::shape(f, random);
+            let number = native::shape(f, &s.words, &mut s.before);
+            if number != 0 || s.before != s.after {
+                differ += 1;
+                if differ <= 3 {
+                    println!("{name} differs: number {number}, {:08x?}", s.words);
+                }
+            }
+        }
+        run.report(name, cases, differ, began);
+    }
+}
+
 fn main() {
     let whole = match env::args().nth(1).as_deref() {
         Some("whole") => true,
@@ -217,6 +237,7 @@ fn main() {
     geom_cases(&mut run, &mut random);
     paint_cases(&mut run, &mut random);
     canvas_cases(&mut run, &mut random);
+    shapes(&mut run, &mut random);
     println!("comparison with the Rust: {} cases, {} differences", run.cases, run.differ);
     if run.differ > 0 {
         exit(1);
