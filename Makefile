@@ -1,8 +1,15 @@
 # make test: the gate, then a short comparison with the unchanged Rust. make ticket: what there is to see.
-.PHONY: test ticket
+# make compare: the comparison at scale, in minutes. make bench: speed beside the Rust.
+.PHONY: test ticket compare bench
 
 test:
 	@bash tools/test
 
 ticket:
 	@bash tools/ticket
+
+compare:
+	@bash oracle/compare
+
+bench:
+	@bash oracle/bench

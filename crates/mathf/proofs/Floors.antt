@@ -111,7 +111,7 @@ big-T (inf false) t a b = refl
 big-T (fin true m e) t a b = absurd a
 big-T (fin false m e) t a b = sym (big-is false m e t (over m e 23 b) .0)
 
--- what the cut of an x above zero asks
+-- above zero is above -1
 pub above-asks : (x : Float) → T (lt (fin false 0 (pos 0)) x) → T (lt (fin true 1 (pos 0)) x)
 unfolding lt
 above-asks nan a = absurd a
@@ -121,12 +121,16 @@ above-asks (fin true m e) a = absurd a
 above-asks (fin false m e) a = pos-over m e 0
 
 -- below zero: what the cut of -x asks
-pub below-asks : (x : Float) → T (lt x (fin false 0 (pos 0))) → T (lt (fin true 1 (pos 23)) x) → T (lt (fin true 1 (pos 0)) (neg x)) × T (lt (neg x) (fin false 1 (pos 23)))
+pub below-asks : (x : Float) → T (lt x (fin false 0 (pos 0))) → T (lt (fin true 1 (pos 23)) x) → T (lt (fin false 0 (pos 0)) (neg x)) × T (lt (neg x) (fin false 1 (pos 23)))
 unfolding lt neg
 below-asks nan a b = absurd a
 below-asks (inf true) a b = absurd b
 below-asks (inf false) a b = absurd a
-below-asks (fin true m e) a b = (pos-over m e 0, b)
+below-asks (fin true zero e) a b = absurd (none (up e) (down e) (ltb→lt 0 (zero * up e * 1 + 0 * 1 * down e) a))
+  where
+    none : (u d : ℕ) → 0 < 0 * u * 1 + 0 * 1 * d → ⊥
+    none u d h = omega arith
+below-asks (fin true (suc m) e) a b = (above-zero (suc m) e (zero-lt-suc m), b)
 below-asks (fin false m e) a b = absurd (not-negative m e a)
 
 -- y is the whole number n: how it compares with m * 2 ^ e

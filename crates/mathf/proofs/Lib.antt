@@ -6,7 +6,8 @@ pub mod Bounds
 pub mod Roots
 pub mod Patterns
 pub mod Scaled
-pub mod Cuts
+pub mod Sums
+pub mod Parts
 pub mod Nearest
 pub mod NextWhole
 pub mod Trust

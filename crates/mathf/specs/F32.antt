@@ -37,7 +37,7 @@ ofZᶠ z = ofInt binary32 z
 abbrev pub ofℕᶠ : ℕ → Float
 ofℕᶠ n = ofZᶠ (pos n)
 
--- 0, 0.5, 1, 1.5, 2, 3, 255
+-- 0, 0.5, 1, 1.5, 2, 3, 255, 256
 abbrev pub f0 : Float
 f0 = ofBits binary32 0
 
@@ -58,6 +58,9 @@ f3 = ofBits binary32 0x4040_0000
 
 abbrev pub f255 : Float
 f255 = ofBits binary32 0x437f_0000
+
+abbrev pub f256 : Float
+f256 = ofBits binary32 0x4380_0000
 
 -- 60, 96, 360
 abbrev pub f60 : Float

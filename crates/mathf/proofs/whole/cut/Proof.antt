@@ -1,41 +1,37 @@
--- `mathf::whole::cut` meets its contract, by the laws of `Cuts`. Assumes nothing.
+-- `mathf::whole::cut` meets its contract, by the law of `Sums`. Assumes nothing.
 use native.Mathlib.Omega.{arith}
-use borrow.Author.Needs.{needs}
-use lib.Dec.{T}
-use lib.Ieee.{binary32, ofBits, fits}
-use Rattle.mathf.proofs.Saturating.{passed, failed}
-use Rattle.mathf.proofs.Patterns.{above-no-nan}
-use Rattle.mathf.proofs.Cuts.{Cut, cut-of, cut-none}
+use lib.Ieee.{ofBits}
+use Rattle.mathf.proofs.Floors.{in-float}
+use Rattle.mathf.proofs.Sums.{Near, near, place-few, place-over, place-is}
 use Rattle.mathf.proofs.whole.cut.Statement.{statement}
 use Rattle.mathf.proofs.whole.cut.Tie as tie
 
--- a parameter is a value of its format
-fit : (c : tie.Start) → T (fits binary32 (c .args .x))
-fit c = search needs
+here : (c : tie.Start) → Near (c .args .x)
+here c = near (c .args .x) (c .pre .0) (c .pre .1)
 
--- from 1 up
-here : (c : tie.Then1) → Cut (c .before .args .x)
+float-to-bits-n : tie.Need-float-to-bits-n
 unfolding ofBits
-here c = cut-of (c .before .args .x) (fit (c .before)) (passed (c .if1 .taken)) (c .before .pre .1)
+float-to-bits-n c = here c .no-nan
 
-float-to-bits-b : tie.Need-float-to-bits-b
-float-to-bits-b c = above-no-nan _ (c .before .args .x) (c .before .pre .0)
+sub-n : tie.Need-sub-n
+unfolding ofBits
+sub-n c = omega (arith, here c .low)
 
-add-result : tie.Need-add-result
-add-result c = search needs
+int-to-float-if1 : tie.Need-int-to-float-if1
+unfolding ofBits
+int-to-float-if1 c = in-float _ (place-few _ (here (c .before)))
 
 sub-result : tie.Need-sub-result
-sub-result c = omega (arith, here c .high)
-
-shr-result : tie.Need-shr-result
-shr-result c = omega (arith, here c .low)
+unfolding ofBits
+sub-result c = place-over _ (here (c .before .before)) (c .if1 .taken) .0
 
 returns : tie.Need-returns
-returns c = here c .is
+unfolding ofBits
+returns c = place-over _ (here (c .before .before)) (c .if1 .taken) .1
 
 returns-2 : tie.Need-returns-2
 unfolding ofBits
-returns-2 c = cut-none (c .before .args .x) (failed (c .if1 .left))
+returns-2 c = place-is _ (here (c .before .before)) (c .if1 .left)
 
 pub cut-spec : {M : Type 1} → statement M
-cut-spec = tie.close (tie.spec float-to-bits-b add-result sub-result shr-result returns returns-2)
+cut-spec = tie.close (tie.spec float-to-bits-n sub-n int-to-float-if1 sub-result returns returns-2)

@@ -4,9 +4,10 @@ use native.Mathlib.Nat.{le-of-lt}
 use native.Mathlib.Omega.{arith}
 use native.Mathlib.Numerals.{add-one-le}
 use lib.Dec.{T}
+use mathlib.Core.Logic.{inl}
 use lib.Ieee.{binary32, ofBits, neg, fits}
 use Rattle.mathf.proofs.Saturating.{passed}
-use Rattle.mathf.proofs.Floors.{above-asks, below-asks, counted, in-float, small, big, more, same, low-down, still}
+use Rattle.mathf.proofs.Floors.{below-asks, counted, in-float, small, big, more, same, low-down, still}
 use Rattle.mathf.proofs.whole.floor.Statement.{statement}
 use Rattle.mathf.proofs.whole.floor.Tie as tie
 
@@ -16,14 +17,14 @@ fit c = search needs
 
 cut-requires : tie.Need-cut-requires
 unfolding ofBits
-cut-requires c κs = (above-asks (c .before .before .args .x) (passed (c .before .if1 .taken)), passed (c .if2 .taken))
+cut-requires c κs = (inl (passed (c .before .if1 .taken)), passed (c .if2 .taken))
 
 int-to-float-result : tie.Need-int-to-float-result
 int-to-float-result c = in-float (c .before .cut .result) (le-of-lt (counted _ _ (c .before .cut .ensures)))
 
 cut-requires-2 : tie.Need-cut-requires-2
 unfolding ofBits neg
-cut-requires-2 c κs = below-asks (c .before .before .before .args .x) (passed (c .before .if3 .taken)) (passed (c .if4 .taken))
+cut-requires-2 c κs = let b = below-asks (c .before .before .before .args .x) (passed (c .before .if3 .taken)) (passed (c .if4 .taken)) in (inl (b .0), b .1)
 
 int-to-float-if5 : tie.Need-int-to-float-if5
 int-to-float-if5 c = in-float (c .before .cut2 .result) (le-of-lt (counted _ _ (c .before .cut2 .ensures)))

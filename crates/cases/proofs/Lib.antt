@@ -1,0 +1,2 @@
+-- Laws that the proofs of `cases` cite. Assumes nothing.
+pub mod Floats

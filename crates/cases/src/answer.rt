@@ -1,0 +1,75 @@
+// What the proved functions of mathf and color answer.
+use crate::word::bits;
+use crate::word::float_of;
+use crate::word::pair;
+use crate::word::pattern;
+use color::Color;
+
+fn mathf_float(f: u32, a: f32, b: f32, c: f32) -> f32 {
+    match f {
+        1 => mathf::sqrt(a),
+        2 => mathf::floor(a),
+        3 => mathf::ceil(a),
+        8 => mathf::min(a, b),
+        9 => mathf::max(a, b),
+        10 => mathf::fabs(a),
+        11 => mathf::clamp(a, b, c),
+        12 => mathf::saturate(a),
+        13 => mathf::lerp(a, b, c),
+        _ => mathf::smoothstep(a, b, c),
+    }
+}
+
+pub fn mathf(f: u32, a: f32, b: f32, c: f32) -> u64 {
+    match f {
+        4 => mathf::to_u8(a) as u64,
+        5 => mathf::to_u32(a) as u64,
+        6 => mathf::to_usize(a) as u64,
+        7 => bits(mathf::to_i32(a)) as u64,
+        _ => pattern(mathf_float(f, a, b, c)) as u64,
+    }
+}
+
+// A colour is stored as the bytes red, green, blue, alpha of a word, the lowest first.
+pub fn color_of(w: u32) -> Color {
+    Color::rgba(
+        (w % 256) as u8,
+        (w / 256 % 256) as u8,
+        (w / 65536 % 256) as u8,
+        (w / 16777216) as u8,
+    )
+}
+
+pub(crate) fn color_word(c: Color) -> u32 {
+    c.r as u32 + 256 * (c.g as u32) + 65536 * (c.b as u32) + 16777216 * (c.a as u32)
+}
+
+fn color_color(f: u32, a: u32, b: u32, c: u32) -> Color {
+    match f {
+        3 => color_of(a).mix(color_of(b), float_of(c)),
+        4 => color_of(a).fade(float_of(b)),
+        5 => color_of(a).alpha(float_of(b)),
+        6 => color_of(a).lighten(float_of(b)),
+        7 => color_of(a).darken(float_of(b)),
+        8 => Color::hex(a),
+        9 => Color::from_pix(a),
+        _ => color::hsv(float_of(a), float_of(b), float_of(c)),
+    }
+}
+
+fn color_blend(dst: u32, r: u32, g: u32, b: u32, a: u32) -> u64 {
+    let p = color::blend(dst, r, g, b, a);
+    pair(p.value, p.number)
+}
+
+// The low word of an answer is a pixel, a colour or a float's pattern, the high word a refusal's number.
+pub fn color(f: u32, a: u32, b: u32, c: u32, d: u32, e: u32) -> u64 {
+    match f {
+        1 => color_blend(a, b, c, d, e),
+        2 => color::blend_c(a, color_of(b), c) as u64,
+        11 => color_of(a).pix() as u64,
+        12 => pattern(color_of(a).luma()) as u64,
+        13 => color::mix_pix(a, b, c) as u64,
+        _ => color_word(color_color(f, a, b, c)) as u64,
+    }
+}

@@ -1,0 +1,79 @@
+// Words of 32 bits in bytes, the lowest byte first, and floats as words.
+ghost use mathlib.Core.Path.{_≡_};
+ghost use Prim.Native.Nat.{_+_, _*_, _^_, _<_};
+ghost use lib.ListN.{getD};
+ghost use lib.Ieee.{binary32, ofBits};
+ghost use Rattle.cases.specs.Word.{halfAt, wordAt};
+
+// The byte at a place, and 0 past the end.
+fn byte(bytes: &[u8], at: usize) -> u8
+    ensures { λ r. ⌜ r ≡ getD (now (bytes .entry)) at 0 ⌝ }
+{
+    if at < bytes.len() { bytes[at] } else { 0 }
+}
+
+fn wide(b: u8) -> u32
+    ensures { λ r. ⌜ (r ≡ b) × (r < 256) ⌝ }
+{
+    b as u32
+}
+
+// The two bytes from a place on.
+fn half(bytes: &[u8], at: usize) -> u32
+    requires { ⌜ at < 2 ^ 63 ⌝ }
+    ensures { λ r. ⌜ (r ≡ halfAt (now (bytes .entry)) at) × (r < 65536) ⌝ }
+{
+    let low = wide(byte(bytes, at));
+    let high = wide(byte(bytes, at + 1));
+    low + 256 * high
+}
+
+// The word at place i, counted in words.
+pub fn word(bytes: &[u8], i: u32) -> u32
+    ensures { λ r. ⌜ r ≡ wordAt (now (bytes .entry)) i ⌝ }
+{
+    let at = 4 * (i as usize);
+    let low = half(bytes, at);
+    let high = half(bytes, at + 2);
+    low + 65536 * high
+}
+
+// The number with a low and a high word.
+pub fn pair(low: u32, high: u32) -> u64 {
+    (low as u64) + 4294967296 * (high as u64)
+}
+
+// The float whose pattern is b. `from_bits` is defined at no NaN's pattern, so a NaN is made of 0 / 0.
+pub fn float_of(b: u32) -> f32
+    ensures { λ r. ⌜ r ≡ ofBits binary32 b ⌝ }
+{
+    if 0x7f80_0000 < b % 0x8000_0000 {
+        0.0 / 0.0
+    } else {
+        f32::from_bits(b)
+    }
+}
+
+// The pattern of x; of every NaN one and the same.
+pub fn pattern(x: f32) -> u32 {
+    if x == x { f32::to_bits(x) } else { 0x7fc0_0000 }
+}
+
+// The bits of z in two's complement.
+pub fn bits(z: i32) -> u32 {
+    let n = if z < 0 {
+        4294967295 - geom::nat_of(!z) % 4294967296
+    } else {
+        geom::nat_of(z)
+    };
+    (n % 4294967296) as u32
+}
+
+// The number whose bits are b.
+pub fn int_of(b: u32) -> i32 {
+    if b < 2147483648 {
+        b as i32
+    } else {
+        !((4294967295 - b) as i32)
+    }
+}

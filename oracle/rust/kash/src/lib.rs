@@ -1,0 +1,3 @@
+//! The four unchanged sources of kash-ui as modules, compiled where they stand (build.rs).
+extern crate alloc;
+include!(concat!(env!("OUT_DIR"), "/sources.rs"));

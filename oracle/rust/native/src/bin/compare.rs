@@ -1,0 +1,245 @@
+//! The proved leaf functions against the unchanged Rust: `whole` takes every f32 where a function has one input, else random cases by
+//! the ten million; `short` takes some hundred thousand. Exit status 1 where any answer differs.
+use answers::{
+    canvas::{Walk, WIDTH},
+    color, geom, mathf, paint, pattern,
+    random::{Random, SEED},
+    shape,
+};
+use std::{env, process::exit, time::Instant};
+
+const BLOCK: usize = 4096;
+
+struct Run {
+    whole: bool,
+    cases: u64,
+    differ: u64,
+}
+
+impl Run {
+    fn report(&mut self, name: &str, cases: u64, differ: u64, began: Instant) {
+        if self.whole || differ > 0 {
+            println!("{name:16} {cases:>11} cases, {differ} differ, {:.1} s", began.elapsed().as_secs_f64());
+        }
+        self.cases += cases;
+        self.differ += differ;
+    }
+
+    /// Blocks of all patterns, or of every 65,537th.
+    fn blocks(&self) -> impl Iterator<Item = Vec<f32>> {
+        let step = if self.whole { 1 } else { 65_537 };
+        (0..1u64 << 32).step_by(BLOCK * step).map(move |first| {
+            let patterns = (first..1 << 32).step_by(step).take(BLOCK);
+            patterns.map(|b| f32::from_bits(b as u32)).collect()
+        })
+    }
+
+    /// A function of one float: `ours` on a block, `rust` on each, compared by their words.
+    fn each<T: Default + Copy>(&mut self, name: &str, ours: impl Fn(&[f32], &mut [T]), rust: impl Fn(f32) -> T, word: impl Fn(T) -> u64) {
+        let (began, mut cases, mut differ) = (Instant::now(), 0, 0);
+        let mut out = vec![T::default(); BLOCK];
+        for block in self.blocks() {
+            let out = &mut out[..block.len()];
+            ours(&block, out);
+            for (x, r) in block.iter().zip(out) {
+                if word(*r) != word(rust(*x)) {
+                    differ += 1;
+                    if differ <= 3 {
+                        println!("{name} of {:#010x} differs", x.to_bits());
+                    }
+                }
+            }
+            cases += block.len() as u64;
+        }
+        self.report(name, cases, differ, began);
+    }
+
+    /// Random cases in the form in which they are stored, checked by the code that replays them.
+    fn stored(&mut self, name: &str, area: u32, width: usize, mut case: impl FnMut() -> Vec<u32>) {
+        let (began, mut differ) = (Instant::now(), 0);
+        let blocks = if self.whole { 2500 } else { 4 };
+        for _ in 0..blocks {
+            let words: Vec<u32> = (0..BLOCK).flat_map(|_| case()).collect();
+            let wrong = native::differing(area, width, &words) as u64;
+            if wrong > 0 && differ == 0 {
+                for one in words.chunks(width).filter(|one| native::differing(area, width, one) > 0).take(3) {
+                    println!("{name} differs: {one:08x?}");
+                }
+            }
+            differ += wrong;
+        }
+        self.report(name, (blocks * BLOCK) as u64, differ, began);
+    }
+}
+
+fn copied(f: impl Fn(&mut [f32])) -> impl Fn(&[f32], &mut [f32]) {
+    move |xs, out| {
+        out.copy_from_slice(xs);
+        f(out)
+    }
+}
+
+fn one_float(run: &mut Run) {
+    let float = |x: f32| pattern(x) as u64;
+    run.each("sqrt", copied(native::sqrt), kash::mathf::sqrt, float);
+    run.each("floor", copied(native::floor), kash::mathf::floor, float);
+    run.each("ceil", copied(native::ceil), kash::mathf::ceil, float);
+    run.each("to_u8", native::to_u8, |x| x as u8, |n| n as u64);
+    run.each("to_u32", native::to_u32, |x| x as u32, |n| n as u64);
+    run.each("to_usize", native::to_usize, |x| x as usize, |n| n as u64);
+    run.each("to_i32", native::to_i32, |x| x as i32, |n| n as u64);
+}
+
+/// Every ink over every old channel at every alpha, through whole slices.
+fn blends(run: &mut Run) {
+    let (began, mut cases, mut differ) = (Instant::now(), 0, 0);
+    let old: Vec<u32> = (0..256).map(|v| v * 0x0101_0101).collect();
+    let step = if run.whole { 1 } else { 51 };
+    for a in 0..=255u8 {
+        for r in (0..=255u8).step_by(step) {
+            let (g, b) = (r.wrapping_add(85), r.wrapping_add(170));
+            let mut px = old.clone();
+            native::blend(&mut px, [r, g, b, a]);
+            let rust = |o: u32| kash::color::blend(o, r as u32, g as u32, b as u32, a as u32);
+            differ += px.iter().zip(&old).filter(|(p, o)| **p != rust(**o)).count() as u64;
+            cases += old.len() as u64;
+        }
+    }
+    run.report("blend, slices", cases, differ, began);
+}
+
+/// Three floats for a function of mathf: any patterns, or numbers of a canvas's size.
+fn floats(random: &mut Random) -> [f32; 3] {
+    match random.below(3) {
+        0 => core::array::from_fn(|_| random.bits()),
+        1 => [random.within(-8192.0, 8192.0), random.within(-8192.0, 8192.0), random.within(-0.5, 1.5)],
+        _ => {
+            let edge = random.within(-300.0, 300.0);
+            [edge, edge + random.within(0.0, 300.0), random.within(-600.0, 600.0)]
+        }
+    }
+}
+
+fn mathf_cases(run: &mut Run, random: &mut Random) {
+    for f in 8..=mathf::NAMES.len() as u32 {
+        run.stored(mathf::NAMES[f as usize - 1], 0, 6, || {
+            let [a, b, c] = floats(random);
+            let r = mathf::answer(f, a, b, c);
+            vec![f, a.to_bits(), b.to_bits(), c.to_bits(), r as u32, (r >> 32) as u32]
+        });
+    }
+}
+
+/// Five words for a function of color: a pixel or colour, then any words, fractions or small numbers.
+fn parts(random: &mut Random) -> [u32; 5] {
+    core::array::from_fn(|i| match random.below(4) {
+        _ if i == 0 => random.word(),
+        0 => random.word(),
+        1 => random.within(-0.1, 1.1).to_bits(),
+        _ => random.below(258),
+    })
+}
+
+fn color_cases(run: &mut Run, random: &mut Random) {
+    for f in 1..=color::NAMES.len() as u32 {
+        run.stored(color::NAMES[f as usize - 1], 1, 8, || {
+            let w = parts(random);
+            let r = color::answer(f, w);
+            vec![f, w[0], w[1], w[2], w[3], w[4], r as u32, (r >> 32) as u32]
+        });
+    }
+}
+
+/// A float for a function of rectangles, and an integer of any size for one of boxes.
+fn side(random: &mut Random, f: u32) -> u32 {
+    match random.below(4) {
+        _ if f >= geom::BOXES => (random.word() as i32 >> random.below(32)) as u32,
+        0 => random.word(),
+        1 => random.within(-40.0, 40.0).floor().to_bits(),
+        _ => random.within(-8192.0, 8192.0).to_bits(),
+    }
+}
+
+fn geom_cases(run: &mut Run, random: &mut Random) {
+    for f in 1..=geom::NAMES.len() as u32 {
+        run.stored(geom::NAMES[f as usize - 1], 2, 13, || {
+            let words = core::array::from_fn(|_| side(random, f));
+            let mut case = vec![f];
+            case.extend(words);
+            case.extend(geom::answer(f, &words));
+            case
+        });
+    }
+}
+
+/// A walk from state to state.
+fn canvas_cases(run: &mut Run, random: &mut Random) {
+    let mut walk = Walk::new(Random(random.next()), 4, 4);
+    run.stored("canvas calls", 3, WIDTH, || walk.step());
+}
+
+/// A float of a paint or a distance: any pattern, or a place on a canvas.
+fn place(random: &mut Random) -> u32 {
+    match random.below(8) {
+        0 => random.word(),
+        _ => random.within(-100.0, 300.0).to_bits(),
+    }
+}
+
+fn paint_cases(run: &mut Run, random: &mut Random) {
+    for f in 1..=paint::NAMES.len() as u32 {
+        run.stored(paint::NAMES[f as usize - 1], 4, 10, || {
+            let mut words: [u32; 8] = core::array::from_fn(|_| place(random));
+            match f {
+                1 => words[0] = random.within(-0.6, 0.6).to_bits(),
+                2 => (),
+                _ => (words[4], words[5]) = (random.word(), random.word()),
+            }
+            let mut case = vec![f];
+            case.extend(words);
+            case.push(paint::answer(f, words));
+            case
+        });
+    }
+}
+
+/// Shapes on small canvases, every pixel compared.
+fn shapes(run: &mut Run, random: &mut Random) {
+    for f in 1..=shape::NAMES.len() as u32 {
+        let (began, name) = (Instant::now(), shape::NAMES[f as usize - 1]);
+        let (cases, mut differ) = (if run.whole { 1_000_000 } else { 2000 }, 0);
+        for _ in 0..cases {
+            let mut s = shape::shape(f, random);
+            let number = native::shape(f, &s.words, &mut s.before);
+            if number != 0 || s.before != s.after {
+                differ += 1;
+                if differ <= 3 {
+                    println!("{name} differs: number {number}, {:08x?}", s.words);
+                }
+            }
+        }
+        run.report(name, cases, differ, began);
+    }
+}
+
+fn main() {
+    let whole = match env::args().nth(1).as_deref() {
+        Some("whole") => true,
+        Some("short") => false,
+        _ => panic!("usage: compare whole|short"),
+    };
+    let mut run = Run { whole, cases: 0, differ: 0 };
+    let mut random = Random(SEED + 3);
+    one_float(&mut run);
+    blends(&mut run);
+    mathf_cases(&mut run, &mut random);
+    color_cases(&mut run, &mut random);
+    geom_cases(&mut run, &mut random);
+    paint_cases(&mut run, &mut random);
+    canvas_cases(&mut run, &mut random);
+    shapes(&mut run, &mut random);
+    println!("comparison with the Rust: {} cases, {} differences", run.cases, run.differ);
+    if run.differ > 0 {
+        exit(1);
+    }
+}
