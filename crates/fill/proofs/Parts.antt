@@ -6,14 +6,12 @@
 --     clear-drawn    the same under a colour of alpha 0
 -- Assumes nothing.
 use mathlib.Core.Path.{_≡_, sym, _∙_}
-use mathlib.Core.Bool.{true, false}
+use mathlib.Core.Bool.{Bool, true, false}
 use mathlib.Core.List.{List}
 use Prim.Native.Nat.{ℕ, _+_, _<_, _≤_, min, max}
 use native.Mathlib.Omega.{arith}
 use lib.Ieee.{Float}
-use Rattle.mathf.specs.Convert.{toI32}
 use Rattle.geom.specs.declared.Rect.{Rect}
-use Rattle.geom.specs.Int.{up}
 use Rattle.geom.proofs.Bools.{same-test}
 use Rattle.color.specs.declared.Color.{Color}
 use Rattle.color.specs.Colours.{pixOf}
@@ -25,19 +23,19 @@ use Rattle.draw.proofs.Loops.{row-three}
 use Rattle.gfx.specs.declared.paints.Paint.{Paint}
 use Rattle.gfx.specs.declared.paints.Paint.the-variants.{Solid}
 use Rattle.gfx.specs.Paints.{paintAt, centreOf}
-use Rattle.fill.specs.declared.Cut.{Cut}
-use Rattle.fill.specs.Fill.{edgeRow, endsOf, middle, rimInk, middleInk, roundInk}
-use Rattle.fill.specs.Rows.{Cuts}
+use Rattle.fill.specs.declared.Ends.{Ends}
+use Rattle.fill.specs.Fill.{edgeRow, cornerRow, middle, rimInk, middleInk, roundInk}
+use Rattle.fill.specs.Rows.{endsOf, clampedOf, Cuts}
 
 -- a range brought between x0 and x1 has the same columns there
-clamped : (x0 x1 le rs a b x : ℕ) → a ≡ max x0 (min le x1) → b ≡ max a (min rs x1) → x0 ≤ x → x < x1 → within le rs x ≡ within a b x
-clamped x0 x1 le rs a b x ea eb l h =
-    same-test (within le rs x) (within a b x)
-    (λ e. let w = within-true le rs x e in within-in a b x (omega arith) (omega arith))
-    (λ e. let w = within-true a b x e in within-in le rs x (omega arith) (omega arith))
+same-columns : (x0 x1 le rs x : ℕ) → x0 ≤ x → x < x1 → within le rs x ≡ within (max x0 (min le x1)) (max (max x0 (min le x1)) (min rs x1)) x
+same-columns x0 x1 le rs x l h =
+    same-test (within le rs x) (within (max x0 (min le x1)) (max (max x0 (min le x1)) (min rs x1)) x)
+    (λ e. let w = within-true le rs x e in within-in _ _ x (omega arith) (omega arith))
+    (λ e. let w = within-true (max x0 (min le x1)) (max (max x0 (min le x1)) (min rs x1)) x e in within-in le rs x (omega arith) (omega arith))
 
 module _ (rect : Rect) (r : Float) (y x0 x1 : ℕ) where
-  pub cut-edge : x0 ≤ x1 → edgeRow rect (centreOf y) ≡ true → Cuts rect r y x0 x1 (record { lend = x1; rstart = x1 })
+  pub cut-edge : x0 ≤ x1 → edgeRow rect (centreOf y) ≡ true → Cuts rect r y x0 x1 (record { le = x1; rs = x1 })
   unfolding middle
   cut-edge o e =
       record {
@@ -47,17 +45,15 @@ module _ (rect : Rect) (r : Float) (y x0 x1 : ℕ) where
         is-middle = λ x l h. rw e (sym (within-none x1 x1 x (omega arith)));
       }
 
-  pub cut-between : (a b : ℕ) → x0 ≤ x1 → edgeRow rect (centreOf y) ≡ false
-      → a ≡ max x0 (min (up (toI32 (endsOf rect r (centreOf y) .le))) x1)
-      → b ≡ max a (min (up (toI32 (endsOf rect r (centreOf y) .rs))) x1)
-      → Cuts rect r y x0 x1 (record { lend = a; rstart = b })
-  unfolding middle
-  cut-between a b o e ea eb =
+  pub cut-between : (corner : Bool) → x0 ≤ x1 → edgeRow rect (centreOf y) ≡ false → cornerRow rect r (centreOf y) ≡ corner
+      → Cuts rect r y x0 x1 (clampedOf (endsOf corner rect r) x0 x1)
+  unfolding middle endsOf
+  cut-between corner o e k =
       record {
         left = omega arith;
         order = omega arith;
         right = omega arith;
-        is-middle = λ x l h. rw e (in-columns _ _ x ∙ clamped x0 x1 _ _ a b x ea eb l h);
+        is-middle = λ x l h. rw (e, k) (in-columns _ _ x ∙ same-columns x0 x1 _ _ x l h);
       }
 
   outside : (paint : Paint) (x p : ℕ) → middle rect r x y ≡ false → rimInk rect r paint x y p ≡ roundInk rect r paint x y p
@@ -68,13 +64,13 @@ module _ (rect : Rect) (r : Float) (y x0 x1 : ℕ) where
   unfolding roundInk
   inside paint x p e = rw e
 
-  pub parts-drawn : (paint : Paint) (c : Cut) (pitch : ℕ) (px px₁ px₂ px₃ : List ℕ) → Cuts rect r y x0 x1 c
-      → px₁ ≡ drawnIn pitch (area x0 y (c .lend) (y + 1)) (rimInk rect r paint) px
-      → px₂ ≡ drawnIn pitch (area (c .lend) y (c .rstart) (y + 1)) (middleInk paint) px₁
-      → px₃ ≡ drawnIn pitch (area (c .rstart) y x1 (y + 1)) (rimInk rect r paint) px₂
+  pub parts-drawn : (paint : Paint) (c : Ends) (pitch : ℕ) (px px₁ px₂ px₃ : List ℕ) → Cuts rect r y x0 x1 c
+      → px₁ ≡ drawnIn pitch (area x0 y (c .le) (y + 1)) (rimInk rect r paint) px
+      → px₂ ≡ drawnIn pitch (area (c .le) y (c .rs) (y + 1)) (middleInk paint) px₁
+      → px₃ ≡ drawnIn pitch (area (c .rs) y x1 (y + 1)) (rimInk rect r paint) px₂
       → px₃ ≡ drawnIn pitch (area x0 y x1 (y + 1)) (roundInk rect r paint) px
   parts-drawn paint c pitch px px₁ px₂ px₃ k d₁ d₂ d₃ =
-      row-three pitch (roundInk rect r paint) (rimInk rect r paint) (middleInk paint) (rimInk rect r paint) y x0 (c .lend) (c .rstart) x1 px px₁ px₂ px₃
+      row-three pitch (roundInk rect r paint) (rimInk rect r paint) (middleInk paint) (rimInk rect r paint) y x0 (c .le) (c .rs) x1 px px₁ px₂ px₃
       (k .left) (k .order) (k .right) d₁ d₂ d₃
       (λ x p l h. outside paint x p (k .is-middle x l (omega arith) ∙ within-below _ _ x h))
       (λ x p l h. inside paint x p (k .is-middle x (omega arith) (omega arith) ∙ within-in _ _ x l h))
@@ -83,10 +79,10 @@ module _ (rect : Rect) (r : Float) (y x0 x1 : ℕ) where
 -- ---- the middle under one colour
 
 module _ (c : Color) (pitch y x0 x1 : ℕ) (px : List ℕ) where
-  pub plain-drawn : (qx : List ℕ) → c .a ≡ 255 → qx ≡ drawnIn pitch (area x0 y x1 (y + 1)) (λ _ _ _. pixOf c) px
+  pub plain-drawn : (qx : List ℕ) → 255 ≤ c .a → qx ≡ drawnIn pitch (area x0 y x1 (y + 1)) (λ _ _ _. pixOf c) px
       → qx ≡ drawnIn pitch (area x0 y x1 (y + 1)) (middleInk (Solid c)) px
   unfolding middleInk paintAt
-  plain-drawn qx e d = d ∙ row-same pitch _ (middleInk (Solid c)) px x0 x1 y (λ x p l h. sym (over-full p c (c .a) (omega arith)))
+  plain-drawn qx e d = d ∙ row-same pitch _ (middleInk (Solid c)) px x0 x1 y (λ x p l h. sym (over-full p c (c .a) e))
 
   pub clear-drawn : c .a ≡ 0 → px ≡ drawnIn pitch (area x0 y x1 (y + 1)) (middleInk (Solid c)) px
   unfolding middleInk paintAt

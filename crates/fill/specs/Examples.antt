@@ -15,7 +15,7 @@ use Rattle.color.specs.Colours.{rgbaOf}
 use Rattle.draw.specs.Draw.{eachAt, onto, meets, drawn, inColumns}
 use Rattle.gfx.specs.declared.paints.Paint.the-variants.{Solid}
 use Rattle.gfx.specs.Paints.{paintAt, radiusOf, cornerSd, rrectSd, cov8Of}
-use Rattle.fill.specs.Fill.{fillReach, endsOf, middle, coverOf, rimInk, middleInk, roundInk, fillInk}
+use Rattle.fill.specs.Fill.{fillReach, middle, coverOf, rimInk, middleInk, roundInk, fillInk}
 
 -- a solid rectangle without round corners, drawn on one row of w pixels
 abbrev onRow : ℕ → Rect → Color → List ℕ → List ℕ
@@ -25,5 +25,5 @@ onRow w rect c px = drawn w (boxOf (pos 0) (pos 0) (pos w) (pos 1)) (fillReach r
 pub half-white-and-red :
     (onRow 2 (rectOf f½ f0 f1 f1) (rgbaOf 255 255 255 255) (0 ∷ 0 ∷ []) ≡ 0x0080_8080 ∷ 0x0080_8080 ∷ [])
     × (onRow 4 (rectOf f0 f0 f1 f1) (rgbaOf 255 0 0 255) (0 ∷ 0 ∷ 0 ∷ 0 ∷ []) ≡ 0x00ff_0000 ∷ 0 ∷ 0 ∷ 0 ∷ [])
-unfolding drawn onto eachAt meets inside inColumns fillReach noArea outerOf endsOf middle coverOf rimInk middleInk roundInk paintAt radiusOf rrectSd cornerSd cov8Of blended coveredBy floorOf ceilOf ofBits round add sub mul ofInt lt le ne toSigned toUnsigned
+unfolding drawn onto eachAt meets inside inColumns fillReach noArea outerOf middle coverOf rimInk middleInk roundInk paintAt radiusOf rrectSd cornerSd cov8Of blended coveredBy floorOf ceilOf ofBits round add sub mul ofInt lt le ne toSigned toUnsigned
 half-white-and-red = (refl, refl)

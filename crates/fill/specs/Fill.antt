@@ -20,7 +20,6 @@ use Rattle.gfx.specs.declared.Done.{Done}
 use Rattle.gfx.specs.declared.paints.Paint.{Paint}
 use Rattle.gfx.specs.Calls.{Called, shapeNumber}
 use Rattle.gfx.specs.Paints.{paintAt, paintOk, centreOf, radiusOf, rrectSd, cov8Of}
-use Rattle.fill.specs.declared.Ends.{Ends}
 
 -- the pixels around the rectangle; none where it has no width or no height, as the method then returns before it meets the clip
 unfoldable pub fillReach : Rect → IRect
@@ -36,20 +35,21 @@ edgeRow rect yc = (yc <ᶠ rect .y +ᶠ f1) || (bottomOf rect -ᶠ f1 <ᶠ yc)
 abbrev pub cornerRow : Rect → Float → Float → Bool
 cornerRow rect r yc = (f0 <ᶠ r) && ((yc <ᶠ rect .y +ᶠ r) || (bottomOf rect -ᶠ r <ᶠ yc))
 
--- `(le, rs)`: where the left rim ends and the right rim starts
-unfoldable pub endsOf : Rect → Float → Float → Ends
-endsOf rect r yc =
-    cond (cornerRow rect r yc)
-    (record { le = ceilOf (rect .x +ᶠ r); rs = floorOf (rightOf rect -ᶠ r) })
-    (record { le = ceilOf (rect .x) +ᶠ f1; rs = floorOf (rightOf rect) -ᶠ f1 })
+-- `le`, where the left rim ends, and `rs`, where the right rim starts: in a corner row, and in any other
+abbrev pub leOf : Bool → Rect → Float → Float
+leOf corner rect r = cond corner (ceilOf (rect .x +ᶠ r)) (ceilOf (rect .x) +ᶠ f1)
+
+abbrev pub rsOf : Bool → Rect → Float → Float
+rsOf corner rect r = cond corner (floorOf (rightOf rect -ᶠ r)) (floorOf (rightOf rect) -ᶠ f1)
 
 -- ---- the pixel in column x and row y
 
 -- between the rims, of a row that is no edge row
 unfoldable pub middle : Rect → Float → ℕ → ℕ → Bool
 middle rect r x y =
-    let ends = endsOf rect r (centreOf y) in
-    not (edgeRow rect (centreOf y)) && inColumns (toI32 (ends .le)) (toI32 (ends .rs)) x
+    let yc = centreOf y in
+    let corner = cornerRow rect r yc in
+    not (edgeRow rect yc) && inColumns (toI32 (leOf corner rect r)) (toI32 (rsOf corner rect r)) x
 
 -- the coverage of a point by its distance to the outline
 unfoldable pub coverOf : Rect → Float → Float → Float → ℕ
@@ -62,7 +62,7 @@ rimInk rect r paint x y p = overC p (paintAt paint (centreOf x) (centreOf y)) (c
 unfoldable pub middleInk : Paint → ℕ → ℕ → ℕ → ℕ
 middleInk paint x y p = let c = paintAt paint (centreOf x) (centreOf y) in over p c (c .a)
 
--- with the radius cut to the sides
+-- one or the other; a call has its radius cut to the sides first
 unfoldable pub roundInk : Rect → Float → Paint → ℕ → ℕ → ℕ → ℕ
 roundInk rect r paint x y p = cond (middle rect r x y) (middleInk paint x y p) (rimInk rect r paint x y p)
 

@@ -1,15 +1,36 @@
--- How a row is cut into its parts.
+-- How the rows of a filled rectangle are cut into rim, middle and rim.
+use mathlib.Core.Bool.{Bool, true, false}
 use mathlib.Core.Path.{_≡_}
-use Prim.Native.Nat.{ℕ, _≤_, _<_}
+use Prim.Native.Nat.{ℕ, _≤_, _<_, min, max}
 use lib.Ieee.{Float}
+use Rattle.mathf.specs.Convert.{toI32}
 use Rattle.geom.specs.declared.Rect.{Rect}
+use Rattle.geom.specs.Int.{up}
 use Rattle.draw.specs.Areas.{within}
-use Rattle.fill.specs.declared.Cut.{Cut}
-use Rattle.fill.specs.Fill.{middle}
+use Rattle.fill.specs.declared.Ends.{Ends}
+use Rattle.fill.specs.declared.Round.{Round}
+use Rattle.fill.specs.Fill.{leOf, rsOf, middle}
 
--- of the columns x0 up to x1 of row y, those from `lend` up to `rstart` are its middle
-pub record Cuts (rect : Rect) (r : Float) (y x0 x1 : ℕ) (c : Cut) : Type 0 where
-  pub left : x0 ≤ c .lend
-  pub order : c .lend ≤ c .rstart
-  pub right : c .rstart ≤ x1
-  pub is-middle : (x : ℕ) → x0 ≤ x → x < x1 → middle rect r x y ≡ within (c .lend) (c .rstart) x
+-- where the rims end, as columns: of a corner row, and of any other
+unfoldable pub endsOf : Bool → Rect → Float → Ends
+endsOf corner rect r = record { le = up (toI32 (leOf corner rect r)); rs = up (toI32 (rsOf corner rect r)) }
+
+-- a rectangle with corners of radius r and its ends, which are the same for all rows of a kind
+abbrev pub roundOf : Rect → Float → Round
+roundOf rect r = record { rect = rect; r = r; bent = endsOf true rect r; straight = endsOf false rect r }
+
+-- its ends are those of its rows
+pub record Ready (s : Round) : Type 0 where
+  pub bent : s .bent ≡ endsOf true (s .rect) (s .r)
+  pub straight : s .straight ≡ endsOf false (s .rect) (s .r)
+
+-- ends brought to x0 up to x1, the right one never under the left
+abbrev pub clampedOf : Ends → ℕ → ℕ → Ends
+clampedOf e x0 x1 = let le = max x0 (min (e .le) x1) in record { le = le; rs = max le (min (e .rs) x1) }
+
+-- of the columns x0 up to x1 of row y, those from `le` up to `rs` are its middle
+pub record Cuts (rect : Rect) (r : Float) (y x0 x1 : ℕ) (c : Ends) : Type 0 where
+  pub left : x0 ≤ c .le
+  pub order : c .le ≤ c .rs
+  pub right : c .rs ≤ x1
+  pub is-middle : (x : ℕ) → x0 ≤ x → x < x1 → middle rect r x y ≡ within (c .le) (c .rs) x

@@ -26,20 +26,22 @@ ghost use Rattle.draw.specs.Draw.{drawn};
 ghost use Rattle.draw.specs.Areas.{area, drawnIn, clipTo, RowFits, AreaFits};
 ghost use Rattle.gfx.specs.declared.paints.Paint.the-variants.{Solid};
 ghost use Rattle.gfx.specs.Paints.{paintAt};
-ghost use Rattle.fill.specs.Fill.{fillReach, edgeRow, cornerRow, endsOf, coverOf, rimInk, middleInk, roundInk, fillInk};
+ghost use Rattle.fill.specs.Fill.{fillReach, edgeRow, cornerRow, coverOf, rimInk, middleInk, roundInk, fillInk};
 ghost use Rattle.fill.specs.Fill.{Filled, rrectFloats, rectFloats, circleFloats, circleRect};
-ghost use Rattle.fill.specs.Rows.{Cuts};
+ghost use Rattle.fill.specs.Rows.{endsOf, roundOf, Ready, clampedOf, Cuts};
 
-// Where the left rim of a row ends and where the right rim starts.
+// Columns of a row: where its left rim ends, and where its right rim starts.
 struct Ends {
-    le: f32,
-    rs: f32,
+    le: usize,
+    rs: usize,
 }
 
-// The same as columns: the middle of a row lies between them.
-struct Cut {
-    lend: usize,
-    rstart: usize,
+// A rectangle with corners of radius r, and the ends of its rows: beside a corner, and elsewhere.
+struct Round {
+    rect: Rect,
+    r: f32,
+    bent: Ends,
+    straight: Ends,
 }
 
 // The pixels around the rectangle; none where it has no width or no height.
@@ -66,52 +68,79 @@ fn corner_row(rect: Rect, r: f32, yc: f32) -> bool
     (r > 0.0) & ((yc < rect.y + r) | (yc > rect.bottom() - r))
 }
 
-fn row_ends(rect: Rect, r: f32, yc: f32) -> Ends
-    ensures { λ e. ⌜ e ≡ endsOf rect r yc ⌝ }
+// A float as a column: 0 where it is negative.
+fn column(x: f32) -> usize
+    ensures { λ n. ⌜ n ≡ up (toI32 x) ⌝ }
 {
-    if corner_row(rect, r, yc) {
-        return Ends {
-            le: mathf::ceil(rect.x + r),
-            rs: mathf::floor(rect.right() - r),
-        };
+    nat_of(mathf::to_i32(x))
+}
+
+// The ends of a row that lies beside a round corner, or of any other.
+fn row_ends(rect: Rect, r: f32, corner: bool) -> Ends
+    ensures { λ e. ⌜ e ≡ endsOf corner rect r ⌝ }
+{
+    if corner {
+        let le = column(mathf::ceil(rect.x + r));
+        let rs = column(mathf::floor(rect.right() - r));
+        return Ends { le, rs };
     }
-    Ends {
-        le: mathf::ceil(rect.x) + 1.0,
-        rs: mathf::floor(rect.right()) - 1.0,
+    let le = column(mathf::ceil(rect.x) + 1.0);
+    let rs = column(mathf::floor(rect.right()) - 1.0);
+    Ends { le, rs }
+}
+
+// The ends are worked out once, for all rows.
+fn round_of(rect: Rect, r: f32) -> Round
+    ensures { λ s. ⌜ s ≡ roundOf rect r ⌝ }
+{
+    let bent = row_ends(rect, r, true);
+    let straight = row_ends(rect, r, false);
+    Round {
+        rect,
+        r,
+        bent,
+        straight,
     }
 }
 
-// A float as a column, brought to lo up to hi.
-fn column(x: f32, lo: usize, hi: usize) -> usize
+// v brought to lo up to hi.
+fn between(v: usize, lo: usize, hi: usize) -> usize
     requires { ⌜ lo ≤ hi ⌝ }
-    ensures { λ n. ⌜ n ≡ max lo (min (up (toI32 x)) hi) ⌝ }
+    ensures { λ n. ⌜ n ≡ max lo (min v hi) ⌝ }
 {
-    let n = nat_of(mathf::to_i32(x));
-    if n < lo {
+    if v < lo {
         lo
-    } else if n < hi {
-        n
+    } else if v < hi {
+        v
     } else {
         hi
     }
 }
 
-// Where row y is cut, between the columns x0 and x1: an edge row has no middle.
-fn cut_row(rect: Rect, r: f32, y: usize, x0: usize, x1: usize) -> Cut
-    requires { ⌜ (x0 ≤ x1) × (y ≤ 2048) ⌝ }
-    ensures { λ c. ⌜ Cuts rect r y x0 x1 c ⌝ }
+// Ends brought to the columns x0 up to x1.
+fn clamped(e: Ends, x0: usize, x1: usize) -> Ends
+    requires { ⌜ x0 ≤ x1 ⌝ }
+    ensures { λ c. ⌜ c ≡ clampedOf e x0 x1 ⌝ }
 {
+    let le = between(e.le, x0, x1);
+    let rs = between(e.rs, le, x1);
+    Ends { le, rs }
+}
+
+// Where row y is cut, between the columns x0 and x1: an edge row has no middle.
+fn cut_row(s: Round, y: usize, x0: usize, x1: usize) -> Ends
+    requires { ⌜ (x0 ≤ x1) × (y ≤ 2048) × Ready s ⌝ }
+    ensures { λ c. ⌜ Cuts (s .rect) (s .r) y x0 x1 c ⌝ }
+{
+    let rect = s.rect;
     let yc = centre(y as u16);
     if edge_row(rect, yc) {
-        return Cut {
-            lend: x1,
-            rstart: x1,
-        };
+        return Ends { le: x1, rs: x1 };
     }
-    let e = row_ends(rect, r, yc);
-    let lend = column(e.le, x0, x1);
-    let rstart = column(e.rs, lend, x1);
-    Cut { lend, rstart }
+    if corner_row(rect, s.r, yc) {
+        return clamped(s.bent, x0, x1);
+    }
+    clamped(s.straight, x0, x1)
 }
 
 // The coverage of a point by its distance to the outline.
@@ -223,36 +252,29 @@ fn middle_span(px: &mut [u32], w: usize, y: usize, x0: usize, x1: usize, paint: 
 }
 
 // Row y between the columns x0 and x1: rim, middle, rim.
-fn fill_row(
-    px: &mut [u32],
-    w: usize,
-    y: usize,
-    x0: usize,
-    x1: usize,
-    rect: Rect,
-    r: f32,
-    paint: Paint,
-)
-    requires { ⌜ RowFits w y x0 x1 (length (now px)) ⌝ }
-    ensures { λ _. ⌜ now (px .exit) ≡ drawnIn w (area x0 y x1 (y + 1)) (roundInk rect r paint) (now (px .entry)) ⌝ }
+fn fill_row(px: &mut [u32], w: usize, y: usize, x0: usize, x1: usize, s: Round, paint: Paint)
+    requires { ⌜ RowFits w y x0 x1 (length (now px)) × Ready s ⌝ }
+    ensures { λ _. ⌜ now (px .exit) ≡ drawnIn w (area x0 y x1 (y + 1)) (roundInk (s .rect) (s .r) paint) (now (px .entry)) ⌝ }
 {
-    let c = cut_row(rect, r, y, x0, x1);
-    let lend = c.lend;
-    let rstart = c.rstart;
+    let rect = s.rect;
+    let r = s.r;
+    let c = cut_row(s, y, x0, x1);
+    let lend = c.le;
+    let rstart = c.rs;
     rim_span(px, w, y, x0, lend, rect, r, paint);
     middle_span(px, w, y, lend, rstart, paint);
     rim_span(px, w, y, rstart, x1, rect, r, paint);
 }
 
 // The rows of an area.
-fn fill_box(px: &mut [u32], w: usize, bb: Area, rect: Rect, r: f32, paint: Paint)
-    requires { ⌜ AreaFits w bb (length (now px)) ⌝ }
-    ensures { λ _. ⌜ now (px .exit) ≡ drawnIn w bb (roundInk rect r paint) (now (px .entry)) ⌝ }
+fn fill_box(px: &mut [u32], w: usize, bb: Area, s: Round, paint: Paint)
+    requires { ⌜ AreaFits w bb (length (now px)) × Ready s ⌝ }
+    ensures { λ _. ⌜ now (px .exit) ≡ drawnIn w bb (roundInk (s .rect) (s .r) paint) (now (px .entry)) ⌝ }
 {
     let x0 = bb.x0;
     let x1 = bb.x1;
     for y in bb.y0..bb.y1 {
-        fill_row(px, w, y, x0, x1, rect, r, paint);
+        fill_row(px, w, y, x0, x1, s, paint);
     }
 }
 
@@ -267,7 +289,9 @@ fn filled(canvas: Canvas, px: &mut [u32], ok: bool, rect: Rect, r: f32, paint: P
     let w = nat_of(canvas.w);
     let clip = canvas.clip;
     let bb = clipped(reach(rect), clip);
-    fill_box(px, w, bb, rect, radius(rect, r), paint);
+    let short = radius(rect, r);
+    let s = round_of(rect, short);
+    fill_box(px, w, bb, s, paint);
     Done { number, canvas }
 }
 

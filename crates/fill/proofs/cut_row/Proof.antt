@@ -1,11 +1,20 @@
 -- `fill::cut_row` meets its contract. Assumes nothing.
-use mathlib.Core.Path.{_≡_, _∙_}
+use mathlib.Core.Path.{_≡_, sym, _∙_}
+use mathlib.Core.Bool.{true, false}
 use Rattle.gfx.specs.Paints.{centreOf}
-use Rattle.fill.specs.Fill.{endsOf}
+use Rattle.fill.specs.Fill.{edgeRow, cornerRow}
 use Rattle.fill.proofs.Parts.{cut-edge, cut-between}
 use borrow.Author.Needs.{needs}
 use Rattle.fill.proofs.cut_row.Statement.{statement}
 use Rattle.fill.proofs.cut_row.Tie as tie
+
+inner : (c : tie.Else1) → edgeRow (c .before .before .before .before .args .s .rect) (centreOf (c .before .before .before .before .args .y)) ≡ false
+inner c = rw (← (c .before .before .centre .ensures), ← (c .before .edge-row .ensures)) (c .if1 .left)
+
+beside : (c : tie.After-corner-row) →
+    cornerRow (c .before .before .before .before .before .args .s .rect) (c .before .before .before .before .before .args .s .r) (centreOf (c .before .before .before .before .before .args .y))
+    ≡ c .corner-row .result
+beside c = rw (← (c .before .before .before .centre .ensures)) (sym (c .corner-row .ensures))
 
 cast-centre : tie.Need-cast-centre
 cast-centre c = search needs
@@ -19,27 +28,31 @@ edge-row-requires c κs = search needs
 returns : tie.Need-returns
 returns c =
     let e = c .before in
-    let args = e .before .before .args in
-    cut-edge (args .rect) (args .r) (args .y) (args .x0) (args .x1) (e .before .before .pre .0) (rw (← (e .before .centre .ensures), ← (e .edge-row .ensures)) (c .if1 .taken))
+    let st = e .before .before .before in
+    cut-edge (st .args .s .rect) (st .args .s .r) (st .args .y) _ _ (st .pre .0) (rw (← (e .before .centre .ensures), ← (e .edge-row .ensures)) (c .if1 .taken))
 
-row-ends-requires : tie.Need-row-ends-requires
-row-ends-requires c κs = search needs
+corner-row-requires : tie.Need-corner-row-requires
+corner-row-requires c κs = search needs
 
-column-requires : tie.Need-column-requires
-column-requires c κs = search needs
-
-column-requires-2 : tie.Need-column-requires-2
-column-requires-2 c κs = search needs
+clamped-requires : tie.Need-clamped-requires
+clamped-requires c κs = search needs
 
 returns-2 : tie.Need-returns-2
 returns-2 c =
-    let ends = c .before .before in
-    let test = ends .before in
-    let edge = test .before in
-    let args = edge .before .before .args in
-    let e : ends .row-ends .result ≡ endsOf (args .rect) (args .r) (centreOf (args .y)) = ends .row-ends .ensures ∙ rw (edge .before .centre .ensures) in
-    cut-between (args .rect) (args .r) (args .y) (args .x0) (args .x1) _ _ (edge .before .before .pre .0) (rw (← (edge .before .centre .ensures), ← (edge .edge-row .ensures)) (test .if1 .left))
-    (c .before .column .ensures ∙ rw e) (c .column2 .ensures ∙ rw e)
+    let k = c .before .before in
+    let st = k .before .before .before .before .before in
+    rw (c .clamped .ensures, st .pre .2 .bent)
+    (cut-between (st .args .s .rect) (st .args .s .r) (st .args .y) _ _ true (st .pre .0) (inner (k .before)) (beside k ∙ c .before .if2 .taken))
+
+clamped-requires-2 : tie.Need-clamped-requires-2
+clamped-requires-2 c κs = search needs
+
+returns-3 : tie.Need-returns-3
+returns-3 c =
+    let k = c .before .before in
+    let st = k .before .before .before .before .before in
+    rw (c .clamped2 .ensures, st .pre .2 .straight)
+    (cut-between (st .args .s .rect) (st .args .s .r) (st .args .y) _ _ false (st .pre .0) (inner (k .before)) (beside k ∙ c .before .if2 .left))
 
 pub cut-row-spec : {M : Type 1} → statement M
 cut-row-spec =
@@ -49,7 +62,8 @@ cut-row-spec =
     centre-requires
     edge-row-requires
     returns
-    row-ends-requires
-    column-requires
-    column-requires-2
-    returns-2)
+    corner-row-requires
+    clamped-requires
+    returns-2
+    clamped-requires-2
+    returns-3)

@@ -7,20 +7,21 @@ use Rattle.fill.proofs.fill_box.Statement.{statement}
 use Rattle.fill.proofs.fill_box.Tie as tie
 
 abbrev Inv-loop : tie.InvT-loop
-Inv-loop px₀ w rect r paint x0 x1 y₀ y-end px y = InRows w (roundInk rect r paint) x0 x1 y₀ y-end px₀ px y
+Inv-loop px₀ w s paint x0 x1 y₀ y-end px y = InRows w (roundInk (s .rect) (s .r) paint) x0 x1 y₀ y-end px₀ px y
 
 abbrev μ-loop : tie.MeasureT-loop
-μ-loop px₀ w rect r paint x0 x1 y₀ y-end px y = y-end - y
+μ-loop px₀ w s paint x0 x1 y₀ y-end px y = y-end - y
 
 loop-holds : tie.Need-loop-holds Inv-loop μ-loop
 loop-holds c =
     let args = c .before .args in
-    rows-start _ (roundInk (args .rect) (args .r) (args .paint)) _ _ _ _ _ (c .before .pre .down)
+    rows-start _ (roundInk (args .s .rect) (args .s .r) (args .paint)) _ _ _ _ _ (c .before .pre .0 .down)
 
 fill-row-requires : tie.Need-fill-row-requires Inv-loop μ-loop
 fill-row-requires c κs =
     let l = c .before .before in
-    row-fits (l .before .before .pre) (l .loop .inv) (c .before .loop-test .taken)
+    let pre = l .before .before .pre in
+    (row-fits (pre .0) (l .loop .inv) (c .before .loop-test .taken), pre .1)
 
 add-y : tie.Need-add-y Inv-loop μ-loop
 add-y c = omega arith

@@ -1,5 +1,5 @@
 -- `fill::filled` meets its contract. Assumes nothing.
-use mathlib.Core.Path.{_≡_, sym, _∙_}
+use mathlib.Core.Path.{_≡_, refl, sym, _∙_}
 use Rattle.geom.specs.Int.{up}
 use Rattle.geom.proofs.Signed.{kept}
 use Rattle.draw.specs.Areas.{clipTo}
@@ -37,13 +37,19 @@ clipped-requires c κs = search needs
 radius-requires : tie.Need-radius-requires
 radius-requires c κs = search needs
 
+round-of-requires : tie.Need-round-of-requires
+round-of-requires c κs = search needs
+
 fill-box-requires : tie.Need-fill-box-requires
 fill-box-requires c κs =
-    let k = c .before .before in
+    let s = c .before in
+    let k = s .before .before in
     let n = k .before .before .before in
     let test = n .before .before in
-    let args = test .before .before .before .args in
-    rw (pitch n, clip k) (canvas-fits (args .canvas) _ (fillReach (args .rect)) (shape-open _ _ (args .ok) (sym (test .before .shape-number .ensures) ∙ test .if1 .left)))
+    let args = test .before .before .before .args in (
+      rw (pitch n, clip k) (canvas-fits (args .canvas) _ (fillReach (args .rect)) (shape-open _ _ (args .ok) (sym (test .before .shape-number .ensures) ∙ test .if1 .left))),
+      rw (s .round-of .ensures) (record { bent = refl; straight = refl }),
+    )
 
 same-length : tie.Need-same-length
 same-length c = search needs
@@ -51,11 +57,12 @@ same-length c = search needs
 returns-2 : tie.Need-returns-2
 returns-2 c =
     let f = c .before .before in
-    let k = f .before .before .before in
+    let s = f .before .before in
+    let k = s .before .before in
     let n = k .before .before .before in
     let test = n .before .before in
     let args = test .before .before .before .args in
-    rw (f .fill-box .ensures, pitch n, clip k, f .before .radius .ensures, ← (drawn-clip (up (args .canvas .w)) (args .canvas .clip) (fillReach (args .rect))))
+    rw (f .fill-box .ensures, pitch n, clip k, s .round-of .ensures, s .before .radius .ensures, ← (drawn-clip (up (args .canvas .w)) (args .canvas .clip) (fillReach (args .rect))))
     (accepted-call (test .before .shape-number .ensures) (test .if1 .left))
 
 pub filled-spec : {M : Type 1} → statement M
@@ -68,6 +75,7 @@ filled-spec =
     reach-requires
     clipped-requires
     radius-requires
+    round-of-requires
     fill-box-requires
     same-length
     returns-2)

@@ -17,8 +17,7 @@ same-length c = search needs
 returns : tie.Need-returns
 returns c =
     let s = c .before .before in
-    let d = s .before .before .before in
-    plain-drawn _ _ _ _ _ _ _ (d .if1 .taken) (rw (s .before .pix .ensures) at (s .store-span .ensures))
+    plain-drawn _ _ _ _ _ _ _ (omega arith) (rw (s .before .pix .ensures) at (s .store-span .ensures))
 
 over-span-requires : tie.Need-over-span-requires
 over-span-requires c κs = search needs
