@@ -4,3 +4,4 @@ pub mod Poly
 pub mod Lines
 pub mod Accum
 pub mod Rooms
+pub mod Examples
