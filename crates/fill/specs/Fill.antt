@@ -5,14 +5,14 @@ use mathlib.Core.List.{List}
 use Prim.Native.Nat.{ℕ}
 use lib.Ieee.{Float}
 use lib.ListN.{length}
-use Rattle.mathf.specs.F32.{_+ᶠ_, _-ᶠ_, _*ᶠ_, _<ᶠ_, f0, f½, f1, f2}
+use Rattle.mathf.specs.F32.{_+ᶠ_, _-ᶠ_, _*ᶠ_, _<ᶠ_, f0, f½, f1}
 use Rattle.mathf.specs.Whole.{floorOf, ceilOf}
 use Rattle.mathf.specs.Convert.{toI32}
 use Rattle.geom.specs.declared.Rect.{Rect}
 use Rattle.geom.specs.declared.IRect.{IRect}
 use Rattle.geom.specs.Int.{up}
 use Rattle.geom.specs.Box.{noBox}
-use Rattle.geom.specs.Plane.{rectOf, rightOf, bottomOf, cxOf, cyOf, noArea, outerOf, floatOk, rectOk}
+use Rattle.geom.specs.Plane.{rightOf, bottomOf, cxOf, cyOf, noArea, outerOf, floatOk, rectOk}
 use Rattle.color.specs.Inks.{over, overC}
 use Rattle.draw.specs.Draw.{drawn, inColumns}
 use Rattle.gfx.specs.declared.Canvas.{Canvas}
@@ -86,7 +86,3 @@ rectFloats rect paint = rectOk rect && paintOk paint
 
 abbrev pub circleFloats : Float → Float → Float → Paint → Bool
 circleFloats cx cy r paint = floatOk cx && floatOk cy && floatOk r && paintOk paint
-
--- the rectangle of a circle
-abbrev pub circleRect : Float → Float → Float → Rect
-circleRect cx cy r = rectOf (cx -ᶠ r) (cy -ᶠ r) (r *ᶠ f2) (r *ᶠ f2)

@@ -27,7 +27,8 @@ ghost use Rattle.draw.specs.Areas.{area, drawnIn, clipTo, RowFits, AreaFits};
 ghost use Rattle.gfx.specs.declared.paints.Paint.the-variants.{Solid};
 ghost use Rattle.gfx.specs.Paints.{paintAt};
 ghost use Rattle.fill.specs.Fill.{fillReach, edgeRow, cornerRow, coverOf, rimInk, middleInk, roundInk, fillInk};
-ghost use Rattle.fill.specs.Fill.{Filled, rrectFloats, rectFloats, circleFloats, circleRect};
+ghost use Rattle.fill.specs.Fill.{Filled, rrectFloats, rectFloats, circleFloats};
+ghost use Rattle.gfx.specs.Paints.{circleRect};
 ghost use Rattle.fill.specs.Rows.{endsOf, roundOf, Ready, clampedOf, Cuts};
 
 // Columns of a row: where its left rim ends, and where its right rim starts.

@@ -1,5 +1,6 @@
 // Points, rectangles of the plane and boxes of pixels, all by value.
 ghost use mathlib.Core.Path.{_≡_};
+ghost use mathlib.Core.Bool.{_&&_};
 ghost use Rattle.mathf.specs.Convert.{toI32};
 ghost use Rattle.mathf.specs.Whole.{floorOf, ceilOf};
 ghost use Rattle.geom.specs.Int.{up, maxZ, minZ};
@@ -33,6 +34,12 @@ pub fn float_ok(x: f32) -> bool
     ensures { λ r. ⌜ r ≡ floatOk x ⌝ }
 {
     (-8192.0 <= x) & (x <= 8192.0)
+}
+
+pub fn floats_ok(a: f32, b: f32) -> bool
+    ensures { λ r. ⌜ r ≡ (floatOk a && floatOk b) ⌝ }
+{
+    float_ok(a) & float_ok(b)
 }
 
 impl Pt {

@@ -2,13 +2,13 @@
 use mathlib.Core.Bool.{Bool, true, cond, _&&_}
 use Prim.Native.Nat.{ℕ}
 use lib.Ieee.{Float}
-use Rattle.mathf.specs.F32.{_+ᶠ_, _-ᶠ_, _*ᶠ_, _/ᶠ_, _<ᶠ_, ofℕᶠ, f0, f½, f255, f1e-3}
+use Rattle.mathf.specs.F32.{_+ᶠ_, _-ᶠ_, _*ᶠ_, _/ᶠ_, _<ᶠ_, ofℕᶠ, f0, f½, f2, f255, f1e-3}
 use Rattle.mathf.specs.Order.{minOf, maxOf, fabsOf, saturateOf}
 use Rattle.mathf.specs.Convert.{toU32}
 use Rattle.mathf.specs.Root.{sqrtOf}
 use Rattle.geom.specs.declared.Pt.{Pt}
 use Rattle.geom.specs.declared.Rect.{Rect}
-use Rattle.geom.specs.Plane.{rightOf, bottomOf, cxOf, cyOf, floatOk, ptOk}
+use Rattle.geom.specs.Plane.{rectOf, rightOf, bottomOf, cxOf, cyOf, floatOk, ptOk}
 use Rattle.color.specs.declared.Color.{Color}
 use Rattle.color.specs.Colours.{mixOf}
 use Rattle.gfx.specs.declared.paints.Rounded.{Rounded}
@@ -78,6 +78,10 @@ roundedOf rect r =
 
 abbrev pub roundedSd : Rounded → Float → Float → Float
 roundedSd s x y = rrectSd x y (s .cx) (s .cy) (s .hw) (s .hh) (s .r)
+
+-- the rectangle around a circle, as `fill_circle` and `ring` make it
+abbrev pub circleRect : Float → Float → Float → Rect
+circleRect cx cy r = rectOf (cx -ᶠ r) (cy -ᶠ r) (r *ᶠ f2) (r *ᶠ f2)
 
 -- `cov8`: the coverage, 0 to 255, of a pixel whose centre lies at the signed distance d of an edge
 unfoldable pub cov8Of : Float → ℕ

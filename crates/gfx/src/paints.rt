@@ -3,6 +3,7 @@ use color::Color;
 use geom::Pt;
 use geom::Rect;
 use geom::float_ok;
+use geom::floats_ok;
 ghost use mathlib.Core.Path.{_≡_};
 ghost use mathlib.Core.Bool.{_&&_};
 ghost use Rattle.geom.specs.Plane.{floatOk, ptOk};
@@ -55,12 +56,6 @@ fn along_radius(c: Pt, r: f32, x: f32, y: f32) -> f32
     let dx = x - c.x;
     let dy = y - c.y;
     mathf::sqrt(dx * dx + dy * dy) / mathf::max(r, 0.001)
-}
-
-fn floats_ok(a: f32, b: f32) -> bool
-    ensures { λ r. ⌜ r ≡ (floatOk a && floatOk b) ⌝ }
-{
-    float_ok(a) & float_ok(b)
 }
 
 fn pts_ok(p: Pt, q: Pt) -> bool

@@ -1,15 +1,14 @@
 -- A row of a shadow in three parts: one alpha in the middle, by distance beside it. Assumes nothing.
-use mathlib.Core.Path.{_≡_, sym, _∙_}
+use mathlib.Core.Path.{_≡_, _∙_}
 use mathlib.Core.List.{List}
-use mathlib.Core.Bool.{Bool, true, false, cond}
+use mathlib.Core.Bool.{Bool, true, false}
 use Prim.Native.Nat.{ℕ, _+_, _≤_, min, max}
 use lib.Ieee.{Float}
 use lib.IntN.{ℤ}
 use Rattle.mathf.specs.F32.{_-ᶠ_, _≤ᶠ_, f0}
 use Rattle.geom.specs.Int.{up}
 use Rattle.draw.specs.Draw.{inColumns}
-use Rattle.draw.specs.Areas.{drawnIn, area, within}
-use Rattle.draw.proofs.Rows.{row-same}
+use Rattle.draw.specs.Areas.{drawnIn, area}
 use Rattle.draw.proofs.Loops.{row-clamped}
 use Rattle.draw.proofs.Clips.{in-columns}
 use Rattle.gfx.specs.Paints.{centreOf}

@@ -6,30 +6,22 @@ use draw::between;
 use draw::clipped;
 use geom::IRect;
 use geom::Rect;
-use geom::float_ok;
+use geom::floats_ok;
 use geom::nat_of;
 use gfx::Canvas;
 use gfx::Done;
 use gfx::Rounded;
 use gfx::centre;
 ghost use mathlib.Core.Path.{_≡_};
-ghost use mathlib.Core.Bool.{_&&_};
 ghost use Prim.Native.Nat.{_+_, _≤_};
 ghost use lib.ListN.{length};
 ghost use Rattle.mathf.specs.F32.{_/ᶠ_, _*ᶠ_, f2, f96};
 ghost use Rattle.geom.specs.Int.{up};
-ghost use Rattle.geom.specs.Plane.{floatOk};
 ghost use Rattle.draw.specs.Draw.{drawn};
 ghost use Rattle.draw.specs.Areas.{drawnIn, area, RowFits, AreaFits};
 ghost use Rattle.gfx.specs.Calls.{Called, shapeNumber};
 ghost use Rattle.shadow.specs.Shadow.{shadowOk, shadowReach, levelOf, table, stepsOut, alphaOf, rowDy, rowQy, straightFrom, straightUpto, straightMiddle, straightSide, cornerFrom, cornerUpto, cornerSide, shadeInk, shadowInk};
 ghost use Rattle.shadow.specs.Spans.{Table, tableAlpha, flatInk, straightInk, cornerInk, straightRowInk, cornerRowInk};
-
-fn floats_ok(a: f32, b: f32) -> bool
-    ensures { λ r. ⌜ r ≡ (floatOk a && floatOk b) ⌝ }
-{
-    float_ok(a) & float_ok(b)
-}
 
 // The reach: nothing where the colour has no alpha or the blur is not above 0.
 fn shadow_reach(rect: Rect, blur: f32, c: Color) -> IRect

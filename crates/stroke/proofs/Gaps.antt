@@ -1,13 +1,12 @@
 -- A row of an outline: whole, or its two sides with a gap between. Assumes nothing.
-use mathlib.Core.Path.{_≡_, sym, _∙_}
+use mathlib.Core.Path.{_≡_, _∙_}
 use mathlib.Core.List.{List}
-use mathlib.Core.Bool.{Bool, true, false, not, _&&_, cond}
-use Prim.Native.Nat.{ℕ, _+_, _<_, _≤_, min, max}
+use mathlib.Core.Bool.{true, false}
+use Prim.Native.Nat.{ℕ, _+_, _≤_, min, max}
 use lib.Ieee.{Float}
 use Rattle.mathf.specs.F32.{_+ᶠ_, f1}
 use Rattle.geom.specs.Int.{up}
 use Rattle.color.specs.declared.Color.{Color}
-use Rattle.draw.specs.Draw.{inColumns}
 use Rattle.draw.specs.Areas.{drawnIn, area, within}
 use Rattle.draw.proofs.Rows.{row-same, drawn-idle}
 use Rattle.draw.proofs.Loops.{row-clamped}

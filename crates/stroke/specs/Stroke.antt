@@ -4,14 +4,14 @@ use Prim.Native.Nat.{ℕ}
 use lib.Dec.{eqb}
 use lib.IntN.{ℤ}
 use lib.Ieee.{Float}
-use Rattle.mathf.specs.F32.{_+ᶠ_, _-ᶠ_, _*ᶠ_, _<ᶠ_, f0, f½, f1, f2, f255}
+use Rattle.mathf.specs.F32.{_+ᶠ_, _-ᶠ_, _*ᶠ_, _<ᶠ_, f0, f½, f1, f255}
 use Rattle.mathf.specs.Order.{saturateOf}
 use Rattle.mathf.specs.Whole.{floorOf, ceilOf}
 use Rattle.mathf.specs.Convert.{toU32, toI32}
 use Rattle.geom.specs.declared.IRect.{IRect}
 use Rattle.geom.specs.declared.Rect.{Rect}
 use Rattle.geom.specs.Box.{noBox}
-use Rattle.geom.specs.Plane.{rectOf, noArea, outerOf, floatOk, rectOk}
+use Rattle.geom.specs.Plane.{noArea, outerOf, floatOk, rectOk}
 use Rattle.color.specs.declared.Color.{Color}
 use Rattle.color.specs.Inks.{overC}
 use Rattle.draw.specs.Draw.{inColumns}
@@ -64,9 +64,6 @@ outlineInk s width c x y p = cond (inGap s width (centreOf y) x) p (bandInk s wi
 abbrev pub strokeInk : Rect → Float → Float → Color → ℕ → ℕ → ℕ → ℕ
 strokeInk rect r width c = outlineInk (roundedOf rect r) width c
 
--- `ring`: the rectangle around a circle
-abbrev pub circleRect : Float → Float → Float → Rect
-circleRect cx cy r = rectOf (cx -ᶠ r) (cy -ᶠ r) (r *ᶠ f2) (r *ᶠ f2)
-
+-- `ring`: the limit reads the numbers given, not the rectangle that they make
 abbrev pub ringOk : Float → Float → Float → Float → Bool
 ringOk cx cy r width = (floatOk cx && floatOk cy) && (floatOk r && floatOk width)

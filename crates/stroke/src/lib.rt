@@ -6,30 +6,22 @@ use draw::between;
 use draw::clipped;
 use geom::IRect;
 use geom::Rect;
-use geom::float_ok;
+use geom::floats_ok;
 use geom::nat_of;
 use gfx::Canvas;
 use gfx::Done;
 use gfx::Rounded;
 use gfx::centre;
 ghost use mathlib.Core.Path.{_≡_};
-ghost use mathlib.Core.Bool.{_&&_};
 ghost use Prim.Native.Nat.{_+_};
 ghost use lib.ListN.{length};
 ghost use Rattle.mathf.specs.F32.{_+ᶠ_, f1};
 ghost use Rattle.geom.specs.Int.{up};
-ghost use Rattle.geom.specs.Plane.{floatOk};
 ghost use Rattle.draw.specs.Draw.{drawn};
 ghost use Rattle.draw.specs.Areas.{drawnIn, area, clipTo, RowFits, AreaFits};
 ghost use Rattle.gfx.specs.Calls.{Called, shapeNumber};
-ghost use Rattle.gfx.specs.Paints.{roundedOf};
-ghost use Rattle.stroke.specs.Stroke.{strokeOk, strokeReach, bandCover, fullRow, cornerRow, sideWidth, gapFrom, gapUpto, bandInk, outlineInk, strokeInk, circleRect, ringOk};
-
-fn floats_ok(a: f32, b: f32) -> bool
-    ensures { λ r. ⌜ r ≡ (floatOk a && floatOk b) ⌝ }
-{
-    float_ok(a) & float_ok(b)
-}
+ghost use Rattle.gfx.specs.Paints.{circleRect};
+ghost use Rattle.stroke.specs.Stroke.{strokeOk, strokeReach, bandCover, fullRow, cornerRow, sideWidth, gapFrom, gapUpto, bandInk, outlineInk, strokeInk, ringOk};
 
 // The reach: nothing where the rectangle has no width or no height, or the colour no alpha.
 fn stroke_reach(rect: Rect, c: Color) -> IRect

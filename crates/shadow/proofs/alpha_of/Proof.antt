@@ -1,5 +1,5 @@
 -- `shadow::alpha_of` meets its contract. Assumes nothing.
-use mathlib.Core.Path.{_≡_, _∙_}
+use mathlib.Core.Path.{_∙_}
 use Rattle.shadow.specs.Shadow.{stepsOut}
 use Rattle.shadow.proofs.Levels.{table-alpha}
 use borrow.Author.Needs.{needs}

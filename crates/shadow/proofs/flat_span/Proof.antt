@@ -1,9 +1,7 @@
 -- `shadow::flat_span` meets its contract. The columns before x are drawn. Assumes nothing.
-use mathlib.Core.Path.{_≡_, _∙_}
 use Prim.Native.Nat.{_-_}
 use native.Mathlib.Omega.{arith}
-use Rattle.color.proofs.Overs.{over-idle}
-use Rattle.draw.proofs.Loops.{InRow, row-start, row-next, row-pass, row-end}
+use Rattle.draw.proofs.Loops.{InRow, row-start, row-next, row-end}
 use Rattle.shadow.specs.Spans.{flatInk}
 use Rattle.shadow.proofs.flat_span.Statement.{statement}
 use Rattle.shadow.proofs.flat_span.Tie as tie

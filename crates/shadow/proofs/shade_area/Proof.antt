@@ -1,5 +1,5 @@
 -- `shadow::shade_area` meets its contract. Assumes nothing.
-use mathlib.Core.Path.{_≡_, refl, _∙_}
+use mathlib.Core.Path.{refl}
 use borrow.Author.Needs.{needs}
 use Rattle.shadow.proofs.shade_area.Statement.{statement}
 use Rattle.shadow.proofs.shade_area.Tie as tie

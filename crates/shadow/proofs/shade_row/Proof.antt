@@ -1,5 +1,5 @@
 -- `shadow::shade_row` meets its contract. Assumes nothing.
-use mathlib.Core.Path.{_≡_, _∙_}
+use mathlib.Core.Path.{_∙_}
 use native.Mathlib.Omega.{arith}
 use Rattle.draw.proofs.Rows.{row-same}
 use Rattle.shadow.proofs.Parts.{straight-row, corner-row}

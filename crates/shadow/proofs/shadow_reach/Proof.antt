@@ -1,5 +1,4 @@
 -- `shadow::shadow_reach` meets its contract. Assumes nothing.
-use mathlib.Core.Path.{_∙_, sym}
 use borrow.Author.Tests.{eq-eqb, ne-eqb}
 use Rattle.geom.specs.Box.{noBox}
 use Rattle.shadow.specs.Shadow.{shadowReach}

@@ -1,5 +1,5 @@
 -- `shadow::straight_span` meets its contract. The columns before x are drawn. Assumes nothing.
-use mathlib.Core.Path.{_≡_, _∙_}
+use mathlib.Core.Path.{_∙_}
 use Prim.Native.Nat.{_-_}
 use native.Mathlib.Omega.{arith}
 use Rattle.color.proofs.Overs.{over-idle}

@@ -1,6 +1,5 @@
 -- `stroke::outline_row` meets its contract. Assumes nothing.
-use mathlib.Core.Path.{_≡_, _∙_, sym}
-use mathlib.Core.Bool.{true, false}
+use mathlib.Core.Path.{_∙_, sym}
 use Rattle.stroke.proofs.Gaps.{full-drawn, sides-drawn}
 use borrow.Author.Needs.{needs}
 use Rattle.stroke.proofs.outline_row.Statement.{statement}

@@ -1,7 +1,7 @@
--- `shadow::floats_ok` meets its contract. Assumes nothing.
+-- `geom::floats_ok` meets its contract. Assumes nothing.
 use borrow.Author.Needs.{needs}
-use Rattle.shadow.proofs.floats_ok.Statement.{statement}
-use Rattle.shadow.proofs.floats_ok.Tie as tie
+use Rattle.geom.proofs.floats_ok.Statement.{statement}
+use Rattle.geom.proofs.floats_ok.Tie as tie
 
 float-ok-requires : tie.Need-float-ok-requires
 float-ok-requires c κs = search needs
