@@ -57,7 +57,7 @@ pub fn f32_at(s: &[u8], at: usize) -> f32
 
 // Whether n bytes from a place on are zero.
 pub(crate) fn all_zero(s: &[u8], at: usize, n: usize) -> bool
-    requires { ⌜ at + n < 0x1_0000_0000 ⌝ }
+    requires { ⌜ at + n < 0x100_0000_0000 ⌝ }
     ensures { λ r. ⌜ r ≡ zeros (now (s .entry)) at n ⌝ }
 {
     for i in 0..n {
@@ -70,7 +70,7 @@ pub(crate) fn all_zero(s: &[u8], at: usize, n: usize) -> bool
 
 // Whether n floats from a place on are finite and within 8,192 of 0.
 pub(crate) fn all_floats(s: &[u8], at: usize, n: usize) -> bool
-    requires { ⌜ at + 4 * n < 0x1_0000_0000 ⌝ }
+    requires { ⌜ at + 4 * n < 0x100_0000_0000 ⌝ }
     ensures { λ r. ⌜ r ≡ floats (now (s .entry)) at n ⌝ }
 {
     for i in 0..n {

@@ -4,35 +4,21 @@ use crate::bytes::all_zero;
 use crate::bytes::byte_at;
 use crate::bytes::u16_at;
 ghost use mathlib.Core.Path.{_≡_};
-ghost use Prim.Native.Nat.{_+_, _*_, _≤_, _<_};
-ghost use Rattle.sheet.specs.Kinds.{row, layoutOf, Near, layoutAt, usedOf, lengthOk, pointsOk, paintBytesOk, bytesOk, floatsOk, savedOk, itemNumber, depthAfter};
-ghost use Rattle.sheet.specs.Bytes.{byteAt, floats};
+ghost use Prim.Native.Nat.{_<_};
+ghost use Rattle.sheet.specs.Kinds.{row, layoutOf, layoutAt, paintLayout, lengthOk, pointsOk, paintBytesOk, bytesOk, paintFloatsOk, floatsOk, savedOk, itemNumber, depthAfter};
 
-// Where an item's fields lie, counted from its first byte: its length; its zero bytes, from `zero` on; its floats, from `float` on;
-// its paint, or 0 where it has none.
+// Where the fields of an item, or of a paint, lie, counted from its first byte: its length; the bytes that it leaves zero, from `zero` on;
+// its floats, from `float` on; its paint, 0 where it has none.
 pub struct Layout {
-    pub length: usize,
-    pub zero: usize,
-    pub zeros: usize,
-    pub float: usize,
-    pub floats: usize,
-    pub paint: usize,
+    pub length: u32,
+    pub zero: u8,
+    pub zeros: u8,
+    pub float: u8,
+    pub floats: u32,
+    pub paint: u8,
 }
 
-// How many of its 28 bytes a paint uses, and how many floats.
-pub struct Used {
-    pub bytes: usize,
-    pub floats: usize,
-}
-
-fn row(
-    length: usize,
-    zero: usize,
-    zeros: usize,
-    float: usize,
-    floats: usize,
-    paint: usize,
-) -> Layout
+fn row(length: u32, zero: u8, zeros: u8, float: u8, floats: u32, paint: u8) -> Layout
     ensures { λ r. ⌜ r ≡ row length zero zeros float floats paint ⌝ }
 {
     Layout {
@@ -45,8 +31,8 @@ fn row(
     }
 }
 
-// Where the fields of a kind lie; m is a polygon's number of points.
-fn layout_of(kind: u8, m: usize) -> Layout
+// An item of a kind; m is a polygon's number of points.
+fn layout_of(kind: u8, m: u32) -> Layout
     requires { ⌜ m < 65536 ⌝ }
     ensures { λ r. ⌜ r ≡ layoutOf kind m ⌝ }
 {
@@ -64,36 +50,21 @@ fn layout_of(kind: u8, m: usize) -> Layout
 
 fn layout_at(s: &[u8], at: usize) -> Layout
     requires { ⌜ at < 65536 ⌝ }
-    ensures { λ r. ⌜ (r ≡ layoutAt (now (s .entry)) at) × Near r ⌝ }
+    ensures { λ r. ⌜ r ≡ layoutAt (now (s .entry)) at ⌝ }
 {
-    layout_of(byte_at(s, at), u16_at(s, at + 2))
+    layout_of(byte_at(s, at), u16_at(s, at + 2) as u32)
 }
 
-// What a paint of a kind uses.
-fn used_of(kind: u8) -> Used
-    ensures { λ r. ⌜ (r ≡ usedOf kind) × (r .bytes ≤ 28) × (r .floats ≤ 4) ⌝ }
+// A paint of a kind, beside the three zeros after its kind.
+fn paint_layout(kind: u8) -> Layout
+    ensures { λ r. ⌜ r ≡ paintLayout kind ⌝ }
 {
     match kind {
-        0 => Used {
-            bytes: 8,
-            floats: 0,
-        },
-        1 => Used {
-            bytes: 20,
-            floats: 2,
-        },
-        2 => Used {
-            bytes: 28,
-            floats: 4,
-        },
-        3 => Used {
-            bytes: 24,
-            floats: 3,
-        },
-        4..=255 => Used {
-            bytes: 28,
-            floats: 0,
-        },
+        0 => row(28, 8, 20, 12, 0, 0),
+        1 => row(28, 20, 8, 12, 2, 0),
+        2 => row(28, 28, 0, 12, 4, 0),
+        3 => row(28, 24, 4, 12, 3, 0),
+        4..=255 => row(28, 28, 0, 12, 0, 0),
     }
 }
 
@@ -104,7 +75,7 @@ fn length_ok(s: &[u8], at: usize, len: usize) -> bool
 {
     let kind = byte_at(s, at);
     let f = layout_at(s, at);
-    (1 <= kind) & (kind <= 7) & (4 <= len) & (len == f.length)
+    (1 <= kind) & (kind <= 7) & (4 <= len) & (len == f.length as usize)
 }
 
 // Nor 13: at most 64 points.
@@ -120,8 +91,8 @@ fn paint_bytes_ok(s: &[u8], p: usize) -> bool
     ensures { λ r. ⌜ r ≡ paintBytesOk (now (s .entry)) p ⌝ }
 {
     let kind = byte_at(s, p);
-    let u = used_of(kind);
-    (kind <= 3) & all_zero(s, p + 1, 3) & all_zero(s, p + u.bytes, 28 - u.bytes)
+    let f = paint_layout(kind);
+    (kind <= 3) & all_zero(s, p + 1, 3) & all_zero(s, p + f.zero as usize, f.zeros as usize)
 }
 
 // Nor 5: zero bytes, `skip_inside`, the paint's kind and what it leaves zero.
@@ -130,10 +101,18 @@ fn bytes_ok(s: &[u8], at: usize) -> bool
     ensures { λ r. ⌜ r ≡ bytesOk (now (s .entry)) at ⌝ }
 {
     let f = layout_at(s, at);
-    let zero = all_zero(s, at + f.zero, f.zeros);
+    let zero = all_zero(s, at + f.zero as usize, f.zeros as usize);
     let skip = (byte_at(s, at) != 7) | (byte_at(s, at + 1) <= 1);
-    let paint = (f.paint == 0) | paint_bytes_ok(s, at + f.paint);
+    let paint = (f.paint == 0) | paint_bytes_ok(s, at + f.paint as usize);
     zero & skip & paint
+}
+
+fn paint_floats_ok(s: &[u8], p: usize) -> bool
+    requires { ⌜ p < 131072 ⌝ }
+    ensures { λ r. ⌜ r ≡ paintFloatsOk (now (s .entry)) p ⌝ }
+{
+    let f = paint_layout(byte_at(s, p));
+    all_floats(s, p + 12, f.floats as usize)
 }
 
 // Nor 6: the floats of the item, and those that its paint uses.
@@ -142,9 +121,9 @@ fn floats_ok(s: &[u8], at: usize) -> bool
     ensures { λ r. ⌜ r ≡ floatsOk (now (s .entry)) at ⌝ }
 {
     let f = layout_at(s, at);
-    let p = at + f.paint;
-    let u = used_of(byte_at(s, p));
-    all_floats(s, at + f.float, f.floats) & ((f.paint == 0) | all_floats(s, p + 12, u.floats))
+    let own = all_floats(s, at + f.float as usize, f.floats as usize);
+    let paint = (f.paint == 0) | paint_floats_ok(s, at + f.paint as usize);
+    own & paint
 }
 
 // Nor 7: a push where fewer than 16 clips are saved.

@@ -7,41 +7,41 @@ use Rattle.sheet.proofs.kinds.floats_ok.Tie as tie
 layout-at-requires : tie.Need-layout-at-requires
 layout-at-requires c κs = search needs
 
-add-p : tie.Need-add-p
-add-p c = search needs
-
-byte-at-requires : tie.Need-byte-at-requires
-byte-at-requires c κs = search needs
-
-used-of-requires : tie.Need-used-of-requires
-used-of-requires c κs = search needs
+cast-all-floats : tie.Need-cast-all-floats
+cast-all-floats c = search needs
 
 add-all-floats : tie.Need-add-all-floats
 add-all-floats c = search needs
 
+cast-all-floats-2 : tie.Need-cast-all-floats-2
+cast-all-floats-2 c = search needs
+
 all-floats-requires : tie.Need-all-floats-requires
 all-floats-requires c κs = search needs
 
-add-all-floats-2 : tie.Need-add-all-floats-2
-add-all-floats-2 c = search needs
+cast-paint-floats-ok : tie.Need-cast-paint-floats-ok
+cast-paint-floats-ok c = search needs
 
-all-floats-requires-2 : tie.Need-all-floats-requires-2
-all-floats-requires-2 c κs = search needs
+add-paint-floats-ok : tie.Need-add-paint-floats-ok
+add-paint-floats-ok c = search needs
+
+paint-floats-ok-requires : tie.Need-paint-floats-ok-requires
+paint-floats-ok-requires c κs = search needs
 
 returns : tie.Need-returns
 unfolding floatsOk
-returns c = rw (c .all-floats2 .ensures, c .before .before .all-floats .ensures, c .before .before .before .before .used-of .ensures .0, c .before .before .before .before .before .byte-at .ensures, c .before .before .before .before .before .before .before .layout-at .ensures .0)
+returns c = rw (c .paint-floats-ok .ensures, c .before .before .before .all-floats .ensures, c .before .before .before .before .before .before .layout-at .ensures)
 
 pub floats-ok-spec : {M : Type 1} → statement M
 floats-ok-spec =
     tie.close
     (tie.spec
     layout-at-requires
-    add-p
-    byte-at-requires
-    used-of-requires
+    cast-all-floats
     add-all-floats
+    cast-all-floats-2
     all-floats-requires
-    add-all-floats-2
-    all-floats-requires-2
+    cast-paint-floats-ok
+    add-paint-floats-ok
+    paint-floats-ok-requires
     returns)

@@ -10,9 +10,12 @@ byte-at-requires c κs = search needs
 layout-at-requires : tie.Need-layout-at-requires
 layout-at-requires c κs = search needs
 
+cast-result : tie.Need-cast-result
+cast-result c = search needs
+
 returns : tie.Need-returns
 unfolding lengthOk
-returns c = rw (c .before .layout-at .ensures .0, c .before .before .byte-at .ensures)
+returns c = rw (c .before .layout-at .ensures, c .before .before .byte-at .ensures)
 
 pub length-ok-spec : {M : Type 1} → statement M
-length-ok-spec = tie.close (tie.spec byte-at-requires layout-at-requires returns)
+length-ok-spec = tie.close (tie.spec byte-at-requires layout-at-requires cast-result returns)
