@@ -2,3 +2,4 @@
 pub mod Bytes
 pub mod Kinds
 pub mod Check
+pub mod Examples
