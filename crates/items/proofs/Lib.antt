@@ -1,0 +1,2 @@
+-- The laws of items that belong to no one function. Assumes nothing.
+pub mod Sound

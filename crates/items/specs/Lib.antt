@@ -1,0 +1,2 @@
+-- The definitions that items' contracts cite. Assumes nothing.
+pub mod Items

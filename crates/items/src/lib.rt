@@ -1,0 +1,199 @@
+// The items of a sheet as values. Reading is total: past the end a byte is 0.
+use color::Color;
+use geom::Pt;
+use geom::Rect;
+use gfx::Paint;
+use sheet::bytes::byte_at;
+use sheet::bytes::f32_at;
+use sheet::bytes::u16_at;
+ghost use mathlib.Core.Path.{_≡_};
+ghost use Prim.Native.Nat.{_<_};
+ghost use Rattle.items.specs.Items.{readColor, readPt, readRect, readPaint, readFill, readStroke, readLine, readPoly, readShadow, readItem, itemAt};
+
+pub mod reader;
+
+// What an item says. A polygon's coordinates stay in the sheet: `count` points, from the byte `first` on.
+pub enum Item {
+    Push(Rect),
+    Pop,
+    Fill {
+        rect: Rect,
+        r: f32,
+        paint: Paint,
+    },
+    Stroke {
+        rect: Rect,
+        r: f32,
+        width: f32,
+        color: Color,
+    },
+    Line {
+        a: Pt,
+        b: Pt,
+        width: f32,
+        color: Color,
+    },
+    Poly {
+        paint: Paint,
+        first: usize,
+        count: usize,
+    },
+    Shadow {
+        rect: Rect,
+        r: f32,
+        blur: f32,
+        color: Color,
+        skip_inside: bool,
+    },
+    // A kind that no accepted sheet has; it draws nothing.
+    Unknown,
+}
+
+fn read_color(s: &[u8], p: usize) -> Color
+    requires { ⌜ p < 131072 ⌝ }
+    ensures { λ r. ⌜ r ≡ readColor (now (s .entry)) p ⌝ }
+{
+    Color::rgba(
+        byte_at(s, p),
+        byte_at(s, p + 1),
+        byte_at(s, p + 2),
+        byte_at(s, p + 3),
+    )
+}
+
+fn read_pt(s: &[u8], p: usize) -> Pt
+    requires { ⌜ p < 131072 ⌝ }
+    ensures { λ r. ⌜ r ≡ readPt (now (s .entry)) p ⌝ }
+{
+    Pt::new(f32_at(s, p), f32_at(s, p + 4))
+}
+
+fn read_rect(s: &[u8], p: usize) -> Rect
+    requires { ⌜ p < 131072 ⌝ }
+    ensures { λ r. ⌜ r ≡ readRect (now (s .entry)) p ⌝ }
+{
+    Rect::new(
+        f32_at(s, p),
+        f32_at(s, p + 4),
+        f32_at(s, p + 8),
+        f32_at(s, p + 12),
+    )
+}
+
+fn read_paint(s: &[u8], p: usize) -> Paint
+    requires { ⌜ p < 131000 ⌝ }
+    ensures { λ r. ⌜ r ≡ readPaint (now (s .entry)) p ⌝ }
+{
+    let kind = byte_at(s, p);
+    let c0 = read_color(s, p + 4);
+    let c1 = read_color(s, p + 8);
+    match kind {
+        0 => Paint::Solid(c0),
+        1 => Paint::VGrad {
+            y0: f32_at(s, p + 12),
+            y1: f32_at(s, p + 16),
+            c0,
+            c1,
+        },
+        2 => Paint::Linear {
+            p0: read_pt(s, p + 12),
+            p1: read_pt(s, p + 20),
+            c0,
+            c1,
+        },
+        3..=255 => Paint::Radial {
+            c: read_pt(s, p + 12),
+            r: f32_at(s, p + 20),
+            c0,
+            c1,
+        },
+    }
+}
+
+fn read_fill(s: &[u8], p: usize) -> Item
+    requires { ⌜ p < 65536 ⌝ }
+    ensures { λ r. ⌜ r ≡ readFill (now (s .entry)) p ⌝ }
+{
+    Item::Fill {
+        rect: read_rect(s, p + 4),
+        r: f32_at(s, p + 20),
+        paint: read_paint(s, p + 24),
+    }
+}
+
+fn read_stroke(s: &[u8], p: usize) -> Item
+    requires { ⌜ p < 65536 ⌝ }
+    ensures { λ r. ⌜ r ≡ readStroke (now (s .entry)) p ⌝ }
+{
+    Item::Stroke {
+        rect: read_rect(s, p + 4),
+        r: f32_at(s, p + 20),
+        width: f32_at(s, p + 24),
+        color: read_color(s, p + 28),
+    }
+}
+
+fn read_line(s: &[u8], p: usize) -> Item
+    requires { ⌜ p < 65536 ⌝ }
+    ensures { λ r. ⌜ r ≡ readLine (now (s .entry)) p ⌝ }
+{
+    Item::Line {
+        a: read_pt(s, p + 4),
+        b: read_pt(s, p + 12),
+        width: f32_at(s, p + 20),
+        color: read_color(s, p + 24),
+    }
+}
+
+fn read_poly(s: &[u8], p: usize) -> Item
+    requires { ⌜ p < 65536 ⌝ }
+    ensures { λ r. ⌜ r ≡ readPoly (now (s .entry)) p ⌝ }
+{
+    Item::Poly {
+        paint: read_paint(s, p + 4),
+        first: p + 32,
+        count: u16_at(s, p + 2),
+    }
+}
+
+fn read_shadow(s: &[u8], p: usize) -> Item
+    requires { ⌜ p < 65536 ⌝ }
+    ensures { λ r. ⌜ r ≡ readShadow (now (s .entry)) p ⌝ }
+{
+    Item::Shadow {
+        rect: read_rect(s, p + 4),
+        r: f32_at(s, p + 20),
+        blur: f32_at(s, p + 24),
+        color: read_color(s, p + 28),
+        skip_inside: byte_at(s, p + 1) == 1,
+    }
+}
+
+// The item that starts at p.
+fn read_item(s: &[u8], p: usize) -> Item
+    requires { ⌜ p < 65536 ⌝ }
+    ensures { λ r. ⌜ r ≡ readItem (now (s .entry)) p ⌝ }
+{
+    let kind = byte_at(s, p);
+    match kind {
+        1 => Item::Push(read_rect(s, p + 4)),
+        2 => Item::Pop,
+        3 => read_fill(s, p),
+        4 => read_stroke(s, p),
+        5 => read_line(s, p),
+        6 => read_poly(s, p),
+        7 => read_shadow(s, p),
+        0 | 8..=255 => Item::Unknown,
+    }
+}
+
+// The item k, counted from 0; `Unknown` where the sheet has none.
+pub fn item_at(s: &[u8], k: usize) -> Item
+    ensures { λ r. ⌜ r ≡ itemAt (now (s .entry)) k ⌝ }
+{
+    if k < u16_at(s, 8) {
+        read_item(s, u16_at(s, 12 + 4 * k))
+    } else {
+        Item::Unknown
+    }
+}

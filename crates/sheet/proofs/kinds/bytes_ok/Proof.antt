@@ -1,0 +1,59 @@
+-- `sheet::kinds::bytes_ok` meets its contract. Assumes nothing.
+use Rattle.sheet.specs.Kinds.{bytesOk}
+use borrow.Author.Needs.{needs}
+use Rattle.sheet.proofs.kinds.bytes_ok.Statement.{statement}
+use Rattle.sheet.proofs.kinds.bytes_ok.Tie as tie
+
+layout-at-requires : tie.Need-layout-at-requires
+layout-at-requires c κs = search needs
+
+cast-all-zero : tie.Need-cast-all-zero
+cast-all-zero c = search needs
+
+add-all-zero : tie.Need-add-all-zero
+add-all-zero c = search needs
+
+cast-all-zero-2 : tie.Need-cast-all-zero-2
+cast-all-zero-2 c = search needs
+
+all-zero-requires : tie.Need-all-zero-requires
+all-zero-requires c κs = search needs
+
+byte-at-requires : tie.Need-byte-at-requires
+byte-at-requires c κs = search needs
+
+add-byte-at : tie.Need-add-byte-at
+add-byte-at c = search needs
+
+byte-at-requires-2 : tie.Need-byte-at-requires-2
+byte-at-requires-2 c κs = search needs
+
+cast-paint-bytes-ok : tie.Need-cast-paint-bytes-ok
+cast-paint-bytes-ok c = search needs
+
+add-paint-bytes-ok : tie.Need-add-paint-bytes-ok
+add-paint-bytes-ok c = search needs
+
+paint-bytes-ok-requires : tie.Need-paint-bytes-ok-requires
+paint-bytes-ok-requires c κs = search needs
+
+returns : tie.Need-returns
+unfolding bytesOk
+returns c = rw (c .paint-bytes-ok .ensures, c .before .before .before .byte-at2 .ensures, c .before .before .before .before .byte-at .ensures, c .before .before .before .before .before .all-zero .ensures, c .before .before .before .before .before .before .before .before .layout-at .ensures)
+
+pub bytes-ok-spec : {M : Type 1} → statement M
+bytes-ok-spec =
+    tie.close
+    (tie.spec
+    layout-at-requires
+    cast-all-zero
+    add-all-zero
+    cast-all-zero-2
+    all-zero-requires
+    byte-at-requires
+    add-byte-at
+    byte-at-requires-2
+    cast-paint-bytes-ok
+    add-paint-bytes-ok
+    paint-bytes-ok-requires
+    returns)
