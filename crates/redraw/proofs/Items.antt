@@ -1,0 +1,115 @@
+-- Item by item is pixel by pixel: to ground a box and draw the items one after the other, each on what the one before left, with the
+-- box as first clip, is `paintedIn`. This is what a loop over the items leans on. Assumes nothing.
+use mathlib.Core.Bool.{Bool, true, false, cond, _&&_}
+use mathlib.Core.List.{List, [], _∷_}
+use mathlib.Core.Path.{_≡_, refl, sym, ap, _∙_}
+use Prim.Native.Nat.{ℕ, _+_, _/_, _%_, _<_}
+use native.Mathlib.Nat.{zero-add}
+use lib.IntN.{pos}
+use lib.ListN.{length, getD}
+use lib.Seq.{ext-getD}
+use Rattle.geom.specs.declared.IRect.{IRect}
+use Rattle.geom.specs.Box.{inside, meet}
+use Rattle.redraw.specs.Drawing.{Item, push, pop, shape, Clips, only, popped, after, Step, withStep, steps, Kind, meets, inked, pixel, pixelOf, wordIn, paintedIn, shapeOn, itemOn, itemsOn, groundIn}
+use Rattle.draw.specs.Draw.{eachAt}
+use Rattle.geom.proofs.Boxes.{in-meet}
+use Rattle.redraw.proofs.Drawn.{length-each, getD-each, length-drawn, word-drawn}
+
+-- ---- a pixel outside the first clip stays
+
+module _ (K : Kind) (x y : ℕ) where
+  -- no saved clip has the pixel
+  data Dark : List IRect → Type 0 where
+    none : Dark []
+    more : {c : IRect} {s : List IRect} → inside c (pos x) (pos y) ≡ false → Dark s → Dark (c ∷ s)
+
+  record Out (c : Clips) : Type 0 where
+    clips : inside (c .clip) (pos x) (pos y) ≡ false
+    saves : Dark (c .saved)
+
+  out-popped : (c : IRect) {s : List IRect} → inside c (pos x) (pos y) ≡ false → Dark s → Out (popped c s)
+  unfolding popped
+  out-popped c e none = record { clips = e; saves = none }
+  out-popped c e (more f d) = record { clips = f; saves = d }
+
+  out-after : (i : Item (K .Shape)) (c : Clips) → Out c → Out (after i c)
+  unfolding after
+  out-after (push b) c o = record { clips = rw (in-meet, o .clips); saves = more (o .clips) (o .saves) }
+  out-after pop c o = out-popped (c .clip) (o .clips) (o .saves)
+  out-after (shape a) c o = o
+
+  out-stays : (items : List (Item (K .Shape))) (c : Clips) (p : ℕ) → Out c → pixel K (steps items c) x y p ≡ p
+  unfolding steps withStep after pixel meets inked
+  out-stays [] c p o = refl
+  out-stays (push b ∷ r) c p o = out-stays r _ p (out-after (push b) c o)
+  out-stays (pop ∷ r) c p o = out-stays r _ p (out-after pop c o)
+  out-stays (shape a ∷ r) c p o =
+      ap (λ (t : Bool). pixel K (steps r c) x y (inked K (t && inside (K .reach a) (pos x) (pos y)) a x y p)) (o .clips)
+      ∙ out-stays r c p o
+
+-- ---- the items, one after the other
+
+module _ (K : Kind) (pitch : ℕ) where
+  pub length-shape : (c : IRect) (a : K .Shape) (px : List ℕ) → length (shapeOn K pitch c a px) ≡ length px
+  unfolding shapeOn
+  length-shape c a px = length-each _ 0 px
+
+  pub word-shape : (c : IRect) (a : K .Shape) (px : List ℕ) (i : ℕ) → i < length px
+      → getD (shapeOn K pitch c a px) i 0
+      ≡ inked K (meets K (record { under = c; drawn = a }) (i % pitch) (i / pitch)) a (i % pitch) (i / pitch) (getD px i 0)
+  unfolding shapeOn
+  word-shape c a px i h = getD-each _ 0 px i h ∙ rw zero-add
+
+  pub length-items : (items : List (Item (K .Shape))) (c : Clips) (px : List ℕ) → length (itemsOn K pitch items c px) ≡ length px
+  unfolding itemsOn itemOn
+  length-items [] c px = refl
+  length-items (push b ∷ r) c px = length-items r _ px
+  length-items (pop ∷ r) c px = length-items r _ px
+  length-items (shape a ∷ r) c px = length-items r _ (shapeOn K pitch (c .clip) a px) ∙ length-shape (c .clip) a px
+
+  pub word-items : (items : List (Item (K .Shape))) (c : Clips) (px : List ℕ) (i : ℕ) → i < length px
+      → getD (itemsOn K pitch items c px) i 0 ≡ pixel K (steps items c) (i % pitch) (i / pitch) (getD px i 0)
+  unfolding itemsOn itemOn steps withStep after pixel
+  word-items [] c px i h = refl
+  word-items (push b ∷ r) c px i h = word-items r _ px i h
+  word-items (pop ∷ r) c px i h = word-items r _ px i h
+  word-items (shape a ∷ r) c px i h =
+      word-items r c (shapeOn K pitch (c .clip) a px) i (rw length-shape h)
+      ∙ ap (λ (p : ℕ). pixel K (steps r c) (i % pitch) (i / pitch) p) (word-shape (c .clip) a px i h)
+
+  module _ (box : IRect) (ground : ℕ) (items : List (Item (K .Shape))) (px : List ℕ) where
+    length-ground : length (groundIn pitch box ground px) ≡ length px
+    unfolding groundIn
+    length-ground = length-each _ 0 px
+
+    word-ground : (i : ℕ) → i < length px
+        → getD (groundIn pitch box ground px) i 0 ≡ cond (inside box (pos (i % pitch)) (pos (i / pitch))) ground (getD px i 0)
+    unfolding groundIn
+    word-ground i h = getD-each _ 0 px i h ∙ rw zero-add
+
+    -- the pixel drawn on the ground in the box, and on itself outside
+    word-first : (i : ℕ) (p : ℕ)
+        → pixel K (steps items (only box)) (i % pitch) (i / pitch) (cond (inside box (pos (i % pitch)) (pos (i / pitch))) ground p)
+        ≡ wordIn K (inside box (pos (i % pitch)) (pos (i / pitch))) items box ground (i % pitch) (i / pitch) p
+    unfolding wordIn pixelOf
+    word-first i p = go (inside box (pos (i % pitch)) (pos (i / pitch))) refl
+      where
+        go : (t : Bool) → inside box (pos (i % pitch)) (pos (i / pitch)) ≡ t
+            → pixel K (steps items (only box)) (i % pitch) (i / pitch) (cond t ground p) ≡ wordIn K t items box ground (i % pitch) (i / pitch) p
+        go true e = refl
+        go false e = out-stays K (i % pitch) (i / pitch) items (only box) p (record { clips = e; saves = none })
+
+    -- a box grounded, and the items drawn with the box as first clip
+    pub items-drawn : itemsOn K pitch items (only box) (groundIn pitch box ground px) ≡ paintedIn K pitch box ground items px
+    items-drawn =
+        ext-getD 0 _ _
+        (length-items items (only box) (groundIn pitch box ground px) ∙ length-ground ∙ sym (length-drawn K pitch box ground items px))
+        (λ i h. same-word i (rw (length-items, length-ground) at h))
+      where
+        same-word : (i : ℕ) → i < length px
+            → getD (itemsOn K pitch items (only box) (groundIn pitch box ground px)) i 0 ≡ getD (paintedIn K pitch box ground items px) i 0
+        same-word i h =
+            word-items items (only box) (groundIn pitch box ground px) i (rw length-ground h)
+            ∙ ap (λ (p : ℕ). pixel K (steps items (only box)) (i % pitch) (i / pitch) p) (word-ground i h)
+            ∙ word-first i (getD px i 0)
+            ∙ sym (word-drawn K pitch box ground items px i h)

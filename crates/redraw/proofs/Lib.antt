@@ -1,0 +1,5 @@
+-- The theory of redrawing; `demand-3` stands in Lists.
+pub mod Drawn
+pub mod Items
+pub mod Lists
+pub mod Rules

@@ -1,0 +1,4 @@
+-- Redrawing: what items draw (Drawing), what painting and patching answer and leave (Sheet), and demand 3 (Calls).
+pub mod Drawing
+pub mod Sheet
+pub mod Calls

@@ -1,0 +1,144 @@
+-- Painting and patching a sheet, as definitions over any kind of shape and any reading of bytes: what a call answers, by the two
+-- sheets and the lengths of px and scratch alone, and what it leaves in px and scratch.
+use mathlib.Core.Bool.{Bool, true, false, cond, not, _&&_}
+use mathlib.Core.List.{List, [], _∷_, _++_}
+use mathlib.Core.Path.{_≡_}
+use Prim.Native.Nat.{ℕ, _*_, _≤_}
+use lib.IntN.{ℤ, pos}
+use lib.Dec.{leb, ltb, eqb}
+use lib.ListN.{length, drop, replicate}
+use Rattle.redraw.specs.declared.Answer.{Answer}
+use Rattle.geom.specs.declared.IRect.{IRect}
+use Rattle.geom.specs.Box.{noBox, hull}
+use Rattle.redraw.specs.Drawing.{Item, push, pop, shape, Kind, only, itemsOn, groundIn}
+
+-- a sheet that was read
+pub record Sheet (Shape : Type 0) : Type 0 where
+  pub w : ℕ
+  pub h : ℕ
+  pub ground : ℕ
+  pub items : List (Item Shape)
+
+-- the reading of some bytes: refused, with number and item, or a sheet
+pub data Reading (Shape : Type 0) : Type 0 where
+  refused : ℕ → ℕ → Reading Shape
+  read : Sheet Shape → Reading Shape
+
+-- What the calls take of a sheet's format: the shapes, the reading of bytes, the scratch words that items need, and the test by
+-- which two items are the same.
+pub record Format : Type 1 where
+  pub kind : Kind
+  pub reading : List ℕ → Reading (kind .Shape)
+  pub need : List (Item (kind .Shape)) → ℕ
+  pub same : Item (kind .Shape) → Item (kind .Shape) → Bool
+
+-- What a format has to prove: items that it calls the same are equal, and no reading is refused by 0.
+pub record Lawful (F : Format) : Type 0 where
+  pub sound : (i j : Item (F .kind .Shape)) → F .same i j ≡ true → i ≡ j
+  pub numbered : (sheet : List ℕ) (n k : ℕ) → F .reading sheet ≡ refused n k → 1 ≤ n
+
+-- ---- how two lists of items differ
+
+-- in a push, a pop or their count; or only in shapes: the pairs of shapes that differ, the old one first
+pub data Change (Shape : Type 0) : Type 0 where
+  other : Change Shape
+  shapes : List (Shape × Shape) → Change Shape
+
+unfoldable pub withPair : {Shape : Type 0} → Shape → Shape → Change Shape → Change Shape
+withPair a b other = other
+withPair a b (shapes l) = shapes ((a, b) ∷ l)
+
+unfoldable pub bothShapes : {Shape : Type 0} → Item Shape → Item Shape → Change Shape → Change Shape
+bothShapes (push b) j c = other
+bothShapes pop j c = other
+bothShapes (shape a) (push b) c = other
+bothShapes (shape a) pop c = other
+bothShapes (shape a) (shape b) c = withPair a b c
+
+module _ {Shape : Type 0} (same : Item Shape → Item Shape → Bool) where
+  unfoldable pub change : List (Item Shape) → List (Item Shape) → Change Shape
+  change [] [] = shapes []
+  change [] (j ∷ s) = other
+  change (i ∷ r) [] = other
+  change (i ∷ r) (j ∷ s) = cond (same i j) (change r s) (bothShapes i j (change r s))
+
+-- the boxes of the pairs
+unfoldable pub reaches : {Shape : Type 0} → (Shape → IRect) → List (Shape × Shape) → List IRect
+reaches reach [] = []
+reaches reach (p ∷ l) = reach (p .0) ∷ reach (p .1) ∷ reaches reach l
+
+-- ---- what a call does
+
+-- refuses, with number and item; or grounds a box and draws a sheet in it
+pub data Outcome (Shape : Type 0) : Type 0 where
+  refuses : ℕ → ℕ → Outcome Shape
+  draws : Sheet Shape → IRect → Outcome Shape
+
+-- at most one pair of shapes may differ; more are refused by 10
+unfoldable pub few : {Shape : Type 0} → List (Shape × Shape) → Bool
+few l = leb (length l) 1
+
+unfoldable pub tooMany : {Shape : Type 0} → Outcome Shape
+tooMany = refuses 10 0
+
+unfoldable pub canvas : {Shape : Type 0} → Sheet Shape → IRect
+canvas s = record { x0 = pos 0; y0 = pos 0; x1 = pos (s .w); y1 = pos (s .h) }
+
+unfoldable pub sameHeader : {Shape : Type 0} → Sheet Shape → Sheet Shape → Bool
+sameHeader a b = (eqb (a .w) (b .w) && eqb (a .h) (b .h)) && eqb (a .ground) (b .ground)
+
+module _ (F : Format) where
+  -- refusals 8 and 9, which read px and scratch by their lengths
+  unfoldable pub lent : Sheet (F .kind .Shape) → ℕ → ℕ → IRect → Outcome (F .kind .Shape)
+  lent s pxLen scratchLen box =
+      cond (eqb pxLen (s .w * s .h)) (cond (leb (F .need (s .items)) scratchLen) (draws s box) (refuses 9 0)) (refuses 8 0)
+
+  unfoldable pub paintOf : Reading (F .kind .Shape) → ℕ → ℕ → Outcome (F .kind .Shape)
+  paintOf (refused n k) pxLen scratchLen = refuses n k
+  paintOf (read s) pxLen scratchLen = lent s pxLen scratchLen (canvas s)
+
+  unfoldable pub patchBy : Change (F .kind .Shape) → Sheet (F .kind .Shape) → ℕ → ℕ → Outcome (F .kind .Shape)
+  patchBy other s pxLen scratchLen = refuses 10 0
+  patchBy (shapes l) s pxLen scratchLen =
+      cond (few l) (lent s pxLen scratchLen (hull (canvas s) (reaches (F .kind .reach) l))) tooMany
+
+  unfoldable pub patchOf : Reading (F .kind .Shape) → Reading (F .kind .Shape) → ℕ → ℕ → Outcome (F .kind .Shape)
+  patchOf (refused n k) new pxLen scratchLen = refuses n k
+  patchOf (read a) (refused n k) pxLen scratchLen = refuses n k
+  patchOf (read a) (read b) pxLen scratchLen =
+      cond (sameHeader a b) (patchBy (change (F .same) (a .items) (b .items)) b pxLen scratchLen) (refuses 10 0)
+
+  -- the outcome of painting some bytes, and of patching from old bytes to new ones
+  unfoldable pub painting : List ℕ → ℕ → ℕ → Outcome (F .kind .Shape)
+  painting sheet = paintOf (F .reading sheet)
+
+  unfoldable pub patching : List ℕ → List ℕ → ℕ → ℕ → Outcome (F .kind .Shape)
+  patching old new = patchOf (F .reading old) (F .reading new)
+
+-- ---- number, item and box; px; scratch; the sheet that is kept
+
+unfoldable pub refusal : ℕ → ℕ → Answer
+refusal n k = record { number = n; item = k; area = noBox }
+
+unfoldable pub answer : {Shape : Type 0} → Outcome Shape → Answer
+answer (refuses n k) = refusal n k
+answer (draws s box) = record { number = 0; item = 0; area = box }
+
+unfoldable pub pixels : (K : Kind) → Outcome (K .Shape) → List ℕ → List ℕ
+pixels K (refuses n k) px = px
+pixels K (draws s box) px = itemsOn K (s .w) (s .items) (only box) (groundIn (s .w) box (s .ground) px)
+
+module _ {Word : Type 0} (zeroWord : Word) (F : Format) where
+  unfoldable pub cleared : Outcome (F .kind .Shape) → List Word → List Word
+  cleared (refuses n k) scratch = scratch
+  cleared (draws s box) scratch = replicate (F .need (s .items)) zeroWord ++ drop (F .need (s .items)) scratch
+
+unfoldable pub accepted : {Shape : Type 0} → Outcome Shape → Bool
+accepted (refuses n k) = false
+accepted (draws s box) = true
+
+-- The fresh painting of a sheet: every pixel begins with the ground, the canvas as clip and nothing saved, and the items are drawn
+-- one after the other.
+module _ (K : Kind) where
+  unfoldable pub fresh : Sheet (K .Shape) → List ℕ
+  fresh s = itemsOn K (s .w) (s .items) (only (canvas s)) (replicate (s .w * s .h) (s .ground))
