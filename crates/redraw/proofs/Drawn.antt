@@ -3,17 +3,17 @@
 --     untouched    lists of items that differ only in shapes agree on a pixel that none of those shapes reaches
 --     redrawn      drawing new items in a box on pixels that show the old ones leaves pixels that show the new ones
 -- Assumes nothing.
-use mathlib.Core.Bool.{Bool, true, false, cond, _&&_, _||_}
+use mathlib.Core.Bool.{Bool, true, false, cond, _&&_}
 use mathlib.Core.List.{List, [], _∷_}
-use mathlib.Core.Path.{_≡_, refl, sym, ap, _∙_, subst}
-use Prim.Native.Nat.{ℕ, zero, suc, _+_, _*_, _/_, _%_, _≤_, _<_}
+use mathlib.Core.Path.{_≡_, refl, sym, ap, _∙_}
+use Prim.Native.Nat.{ℕ, zero, suc, _+_, _/_, _%_, _<_}
 use native.Mathlib.Omega.{arith}
 use native.Mathlib.Nat.{add-zero, add-suc, suc-add, zero-add}
 use lib.IntN.{ℤ, pos}
 use lib.ListN.{length, getD}
 use Rattle.geom.specs.declared.IRect.{IRect}
-use Rattle.geom.specs.Box.{inside, meet, inAny, HoldsEach}
-use Rattle.redraw.specs.Drawing.{Item, push, pop, shape, Clips, only, popped, after, Step, withStep, steps, Kind, meets, inked, pixel, pixelOf, wordIn, paintedIn}
+use Rattle.geom.specs.Box.{inside, inAny, HoldsEach}
+use Rattle.redraw.specs.Drawing.{Item, push, pop, shape, Clips, only, popped, after, withStep, steps, Kind, meets, inked, pixel, pixelOf, wordIn, paintedIn}
 use Rattle.draw.specs.Draw.{eachAt}
 use Rattle.redraw.specs.Sheet.{Change, other, shapes, withPair, bothShapes, change, reaches}
 use Rattle.geom.proofs.Bools.{or-false, same-test}

@@ -3,15 +3,16 @@
 use mathlib.Core.Bool.{Bool, true, false, cond, _&&_}
 use mathlib.Core.List.{List, [], _∷_}
 use mathlib.Core.Path.{_≡_, refl, sym, ap, _∙_}
-use Prim.Native.Nat.{ℕ, _+_, _/_, _%_, _<_}
+use Prim.Native.Nat.{ℕ, _/_, _%_, _<_}
 use native.Mathlib.Nat.{zero-add}
 use lib.IntN.{pos}
 use lib.ListN.{length, getD}
 use lib.Seq.{ext-getD}
 use Rattle.geom.specs.declared.IRect.{IRect}
-use Rattle.geom.specs.Box.{inside, meet}
-use Rattle.redraw.specs.Drawing.{Item, push, pop, shape, Clips, only, popped, after, Step, withStep, steps, Kind, meets, inked, pixel, pixelOf, wordIn, paintedIn, shapeOn, itemOn, itemsOn, groundIn}
-use Rattle.draw.specs.Draw.{eachAt}
+use Rattle.geom.specs.Box.{inside}
+use Rattle.redraw.specs.Drawing.{Item, push, pop, shape, Clips, only, popped, after, withStep, steps, Kind, meets, inked, pixel, pixelOf, wordIn, paintedIn, shapeOn, itemOn, itemsOn, groundIn}
+use Rattle.draw.specs.Draw as Draw
+use Rattle.draw.proofs.Clips as Clips
 use Rattle.geom.proofs.Boxes.{in-meet}
 use Rattle.redraw.proofs.Drawn.{length-each, getD-each, length-drawn, word-drawn}
 
@@ -52,13 +53,19 @@ module _ (K : Kind) (x y : ℕ) where
 module _ (K : Kind) (pitch : ℕ) where
   pub length-shape : (c : IRect) (a : K .Shape) (px : List ℕ) → length (shapeOn K pitch c a px) ≡ length px
   unfolding shapeOn
-  length-shape c a px = length-each _ 0 px
+  length-shape c a px = Clips.length-shape pitch c (K .reach a) (K .ink a) px
+
+  inked-is : (t : Bool) (a : K .Shape) (x y p : ℕ) → cond t (K .ink a x y p) p ≡ inked K t a x y p
+  unfolding inked
+  inked-is true a x y p = refl
+  inked-is false a x y p = refl
 
   pub word-shape : (c : IRect) (a : K .Shape) (px : List ℕ) (i : ℕ) → i < length px
       → getD (shapeOn K pitch c a px) i 0
       ≡ inked K (meets K (record { under = c; drawn = a }) (i % pitch) (i / pitch)) a (i % pitch) (i / pitch) (getD px i 0)
-  unfolding shapeOn
-  word-shape c a px i h = getD-each _ 0 px i h ∙ rw zero-add
+  unfolding shapeOn meets Draw.meets
+  word-shape c a px i h =
+      Clips.shape-at pitch c (K .reach a) (K .ink a) px i h ∙ inked-is (meets K (record { under = c; drawn = a }) (i % pitch) (i / pitch)) a (i % pitch) (i / pitch) (getD px i 0)
 
   pub length-items : (items : List (Item (K .Shape))) (c : Clips) (px : List ℕ) → length (itemsOn K pitch items c px) ≡ length px
   unfolding itemsOn itemOn

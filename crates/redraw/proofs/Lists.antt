@@ -2,11 +2,11 @@
 -- last, and each call is right. Assumes nothing.
 use mathlib.Core.Bool.{Bool, true, false, cond, _&&_, false≢true}
 use mathlib.Core.List.{List, [], _∷_}
-use mathlib.Core.Path.{_≡_, refl, sym, ap, _∙_, subst}
-use Prim.Native.Nat.{ℕ, zero, suc, _+_, _*_, _/_, _%_, _≤_, _<_}
+use mathlib.Core.Path.{_≡_, refl, sym, ap, _∙_}
+use Prim.Native.Nat.{ℕ, zero, suc, _*_, _/_, _%_, _≤_, _<_}
 use native.Mathlib.Omega.{arith}
-use native.Mathlib.Nat.{mod-lt, div-lt-iff-lt-mul, mul-comm, zero-mul, zero-add}
-use lib.IntN.{ℤ, pos}
+use native.Mathlib.Nat.{mod-lt, div-lt-iff-lt-mul, mul-comm, zero-mul}
+use lib.IntN.{pos}
 use lib.Dec.{eqb, leb, lit≤}
 use lib.ListN.{length, getD, replicate, length-replicate, getD-replicate, length-append, length-drop}
 use lib.Seq.{ext-getD}
@@ -14,8 +14,8 @@ use borrow.Author.Tests.{eqb-true, leb-true}
 use Rattle.redraw.specs.declared.Answer.{Answer}
 use Rattle.geom.specs.declared.IRect.{IRect}
 use Rattle.geom.proofs.Int.{orderZ}
-use Rattle.geom.specs.Box.{inside, hull, HoldsEach, Smallest}
-use Rattle.redraw.specs.Drawing.{Item, Kind, only, pixelOf, paintedIn}
+use Rattle.geom.specs.Box.{inside, hull}
+use Rattle.redraw.specs.Drawing.{Kind, only, pixelOf, paintedIn}
 use Rattle.redraw.specs.Sheet.{Format, Lawful, Sheet, Reading, read, refused, Change, other, shapes, change, reaches, Outcome, refuses, draws, few, tooMany, canvas, sameHeader, lent, paintOf, patchBy, patchOf, painting, patching, refusal, answer, pixels, cleared, accepted, fresh}
 use Rattle.redraw.specs.Calls.{Shown, Call, Painted, Patched, model, keptAfter, Follow, Confined, Right, Always}
 use Rattle.geom.proofs.Bools.{and-left, and-right}

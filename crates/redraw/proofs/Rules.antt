@@ -1,10 +1,9 @@
 -- The outcome of a call, a law for each way through its conditions, in their order: what a proof of `paint` or `patch` cites at each
 -- return. `does-refused` and `does-drawn` make the contract of an outcome. Assumes nothing.
-use mathlib.Core.Bool.{Bool, true, false, cond}
-use mathlib.Core.List.{List, [], _∷_}
-use mathlib.Core.Path.{_≡_, refl, sym, ap, _∙_}
+use mathlib.Core.Bool.{true, false, cond}
+use mathlib.Core.List.{List}
+use mathlib.Core.Path.{_≡_, sym, ap, _∙_}
 use Prim.Native.Nat.{ℕ, _*_, _/_, _%_, _≤_, _<_}
-use lib.Dec.{eqb, leb}
 use lib.IntN.{pos}
 use lib.ListN.{length, replicate, length-replicate, getD-replicate}
 use lib.Seq.{ext-getD}

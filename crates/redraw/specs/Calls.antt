@@ -1,17 +1,15 @@
 -- Demand 3: lists of patch calls that follow an accepted painting.
 -- `Painted` and `Patched` are the contracts of `paint` and `patch`; `Follow` says that a list of calls is such a list, each on what
 -- the one before left; `Always` says what is claimed of it, after the painting and after each call.
-use mathlib.Core.Bool.{Bool, true, false, cond}
+use mathlib.Core.Bool.{true, false, cond}
 use mathlib.Core.List.{List, [], _∷_}
 use mathlib.Core.Path.{_≡_}
-use Prim.Native.Nat.{ℕ, _*_, _/_, _%_, _≤_, _<_}
-use lib.IntN.{ℤ, pos}
+use Prim.Native.Nat.{ℕ, _/_, _%_, _<_}
+use lib.IntN.{pos}
 use lib.ListN.{length, getD}
 use Rattle.redraw.specs.declared.Answer.{Answer}
-use Rattle.geom.specs.declared.IRect.{IRect}
 use Rattle.geom.specs.Box.{inside, Smallest}
-use Rattle.redraw.specs.Drawing.{Item, Kind}
-use Rattle.redraw.specs.Sheet.{Format, Sheet, Reading, read, refused, Change, shapes, change, reaches, Outcome, canvas, painting, patching, answer, pixels, cleared, accepted, fresh}
+use Rattle.redraw.specs.Sheet.{Format, Sheet, read, shapes, change, reaches, Outcome, canvas, painting, patching, answer, pixels, cleared, accepted, fresh}
 
 module _ (F : Format) where
   -- px is the fresh painting of the sheet that some bytes hold

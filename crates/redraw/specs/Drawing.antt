@@ -2,11 +2,11 @@
 -- `steps` works out the clip in force at each shape, and `pixel` folds the shapes, with their clips, over one pixel.
 use mathlib.Core.Bool.{Bool, true, false, cond, _&&_}
 use mathlib.Core.List.{List, [], _∷_}
-use Prim.Native.Nat.{ℕ, suc, _%_, _/_}
-use lib.IntN.{ℤ, pos}
+use Prim.Native.Nat.{ℕ, _%_, _/_}
+use lib.IntN.{pos}
 use Rattle.geom.specs.declared.IRect.{IRect}
 use Rattle.geom.specs.Box.{inside, meet}
-use Rattle.draw.specs.Draw.{eachAt}
+use Rattle.draw.specs.Draw.{eachAt, drawn}
 
 pub data Item (Shape : Type 0) : Type 0 where
   push : IRect → Item Shape
@@ -88,10 +88,9 @@ module _ (K : Kind) where
 -- ---- item by item: what the shape methods and the loop over the items leave in px
 
 module _ (K : Kind) where
-  -- px after a shape's method under a clip
+  -- px after a shape's method under a clip, as the contracts of the shapes have it
   unfoldable pub shapeOn : ℕ → IRect → K .Shape → List ℕ → List ℕ
-  shapeOn pitch c a =
-      eachAt (λ i p. inked K (meets K (record { under = c; drawn = a }) (i % pitch) (i / pitch)) a (i % pitch) (i / pitch) p) 0
+  shapeOn pitch c a px = drawn pitch c (K .reach a) (K .ink a) px
 
   -- px after one item: a push or a pop leaves it
   unfoldable pub itemOn : ℕ → Item (K .Shape) → IRect → List ℕ → List ℕ

@@ -1,11 +1,11 @@
 -- Painting and patching a sheet, as definitions over any kind of shape and any reading of bytes: what a call answers, by the two
 -- sheets and the lengths of px and scratch alone, and what it leaves in px and scratch.
-use mathlib.Core.Bool.{Bool, true, false, cond, not, _&&_}
+use mathlib.Core.Bool.{Bool, true, false, cond, _&&_}
 use mathlib.Core.List.{List, [], _∷_, _++_}
 use mathlib.Core.Path.{_≡_}
 use Prim.Native.Nat.{ℕ, _*_, _≤_}
-use lib.IntN.{ℤ, pos}
-use lib.Dec.{leb, ltb, eqb}
+use lib.IntN.{pos}
+use lib.Dec.{leb, eqb}
 use lib.ListN.{length, drop, replicate}
 use Rattle.redraw.specs.declared.Answer.{Answer}
 use Rattle.geom.specs.declared.IRect.{IRect}
