@@ -11,7 +11,7 @@ use borrow.Author.Tests.{leb-true, le-leb, lt-ltb}
 use Rattle.geom.specs.Plane.{floatOk, ptOk, rectOk}
 use Rattle.geom.proofs.Bools.{and-left, and-right, and-both}
 use Rattle.gfx.specs.Paints.{paintOk}
-use Rattle.sheet.specs.Bytes.{byteAt, floatAt, floats, zeros}
+use Rattle.sheet.specs.Bytes.{byteAt, floatAt, floatOkAt, floats, zeros}
 use Rattle.sheet.specs.Kinds.{kindAt, pointsAt, layoutAt, paintLayout, paintBytesOk, bytesOk, paintFloatsOk, floatsOk, depthAfter}
 use Rattle.sheet.specs.Check.{offsetOf}
 use Rattle.sheet.proofs.Places.{each}
@@ -36,7 +36,7 @@ itemOk s depth Unknown = false
 module _ (s : List ℕ) (p n : ℕ) (e : floats s p n ≡ true) where
   -- the one at q
   float-ok : (i q : ℕ) → i < n → p + 4 * i ≡ q → floatOk (floatAt s q) ≡ true
-  float-ok i q h r = rw r at (each (λ t. floatOk (floatAt s t)) 4 p n i e h)
+  float-ok i q h r = rw r at (each (floatOkAt s) 4 p n i e h)
 
   -- the point at q
   pt-ok : (i q : ℕ) → i + 1 < n → p + 4 * i ≡ q → ptOk (readPt s q) ≡ true
