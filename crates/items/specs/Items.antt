@@ -1,9 +1,10 @@
 -- The items of a sheet as values (document 01, "The sheet"). `s` is the sheet, p a place in it. Reading is total: past the end a byte is 0,
 -- and a kind that no accepted sheet has is an item that draws nothing. Assumes nothing.
-use Prim.Native.Nat.{ℕ, _+_}
+use Prim.Native.Nat.{ℕ, zero, suc, _+_}
 use mathlib.Core.Bool.{cond}
 use mathlib.Core.List.{List, [], _∷_}
 use lib.Dec.{ltb, eqb}
+use lib.Ieee.{Float}
 use Rattle.geom.specs.declared.Pt.{Pt}
 use Rattle.geom.specs.declared.Rect.{Rect}
 use Rattle.geom.specs.Plane.{ptOf, rectOf}
@@ -73,3 +74,8 @@ readItem s p =
 -- the item k, counted from 0, of a sheet that has so many
 unfoldable pub itemAt : List ℕ → ℕ → Item
 itemAt s k = cond (ltb k (countOf s)) (readItem s (offsetOf s k)) Unknown
+
+-- n coordinates from p on, x y x y
+unfoldable pub coordsFrom : List ℕ → ℕ → ℕ → List Float
+coordsFrom s p zero = []
+coordsFrom s p (suc n) = floatAt s p ∷ coordsFrom s (p + 4) n

@@ -8,7 +8,7 @@ use sheet::bytes::f32_at;
 use sheet::bytes::u16_at;
 ghost use mathlib.Core.Path.{_≡_};
 ghost use Prim.Native.Nat.{_<_};
-ghost use Rattle.items.specs.Items.{readColor, readPt, readRect, readPaint, readFill, readStroke, readLine, readPoly, readShadow, readItem, itemAt};
+ghost use Rattle.items.specs.Items.{readColor, readPt, readRect, readPaint, readFill, readStroke, readLine, readPoly, readShadow, readItem, itemAt, coordsFrom};
 
 pub mod reader;
 
@@ -35,7 +35,7 @@ pub enum Item {
     },
     Poly {
         paint: Paint,
-        first: usize,
+        first: u32,
         count: usize,
     },
     Shadow {
@@ -151,7 +151,7 @@ fn read_poly(s: &[u8], p: usize) -> Item
 {
     Item::Poly {
         paint: read_paint(s, p + 4),
-        first: p + 32,
+        first: p as u32 + 32,
         count: u16_at(s, p + 2),
     }
 }
@@ -167,6 +167,17 @@ fn read_shadow(s: &[u8], p: usize) -> Item
         color: read_color(s, p + 28),
         skip_inside: byte_at(s, p + 1) == 1,
     }
+}
+
+// The coordinates of 64 points from a byte on, x y x y; a polygon has the first of them.
+pub fn coords(s: &[u8], first: u32) -> [f32; 128]
+    ensures { λ r. ⌜ r ≡ coordsFrom (now (s .entry)) first 128 ⌝ }
+{
+    let mut xs = [0.0; 128];
+    for i in 0..128 {
+        xs[i] = f32_at(s, first as usize + 4 * i);
+    }
+    xs
 }
 
 // The item that starts at p.
