@@ -9,7 +9,7 @@ use Rattle.geom.specs.declared.Pt.{Pt}
 use Rattle.geom.specs.declared.Rect.{Rect}
 use Rattle.geom.specs.Plane.{ptOf, rectOf}
 use Rattle.color.specs.declared.Color.{Color}
-use Rattle.color.specs.Colours.{rgbaOf}
+use Rattle.color.specs.Colours.{rgbOf, rgbaOf}
 use Rattle.gfx.specs.declared.paints.Paint.{Paint}
 use Rattle.gfx.specs.declared.paints.Paint.the-variants.{Solid, VGrad, Linear, Radial}
 use Rattle.sheet.specs.Bytes.{byteAt, floatAt, lookup}
@@ -18,7 +18,11 @@ use Rattle.sheet.specs.Check.{countOf, offsetOf}
 use Rattle.items.specs.declared.Item.{Item}
 use Rattle.items.specs.declared.Item.the-variants.{Push, Pop, Fill, Stroke, Line, Poly, Shadow, Unknown}
 
--- R G B A
+-- the ground: R G B
+abbrev pub groundOf : List ℕ → Color
+groundOf s = rgbOf (byteAt s 4) (byteAt s 5) (byteAt s 6)
+
+-- a colour: R G B A
 abbrev pub readColor : List ℕ → ℕ → Color
 readColor s p = rgbaOf (byteAt s p) (byteAt s (p + 1)) (byteAt s (p + 2)) (byteAt s (p + 3))
 

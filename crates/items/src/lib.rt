@@ -3,12 +3,12 @@ use color::Color;
 use geom::Pt;
 use geom::Rect;
 use gfx::Paint;
-use sheet::bytes::byte_at;
-use sheet::bytes::f32_at;
-use sheet::bytes::u16_at;
+use sheet::byte_at;
+use sheet::f32_at;
+use sheet::u16_at;
 ghost use mathlib.Core.Path.{_≡_};
 ghost use Prim.Native.Nat.{_<_};
-ghost use Rattle.items.specs.Items.{readColor, readPt, readRect, readPaint, readFill, readStroke, readLine, readPoly, readShadow, readItem, itemAt, coordsFrom};
+ghost use Rattle.items.specs.Items.{readColor, readPt, readRect, readPaint, readFill, readStroke, readLine, readPoly, readShadow, readItem, itemAt, coordsFrom, groundOf};
 
 pub mod reader;
 
@@ -47,6 +47,13 @@ pub enum Item {
     },
     // A kind that no accepted sheet has; it draws nothing.
     Unknown,
+}
+
+// The ground of a sheet: bytes 4 to 6.
+pub fn ground(s: &[u8]) -> Color
+    ensures { λ r. ⌜ r ≡ groundOf (now (s .entry)) ⌝ }
+{
+    Color::rgb(byte_at(s, 4), byte_at(s, 5), byte_at(s, 6))
 }
 
 fn read_color(s: &[u8], p: usize) -> Color
