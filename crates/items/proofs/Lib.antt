@@ -1,2 +1,3 @@
 -- The laws of items that belong to no one function. Assumes nothing.
 pub mod Sound
+pub mod PolyPoints

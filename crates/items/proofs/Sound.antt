@@ -11,7 +11,7 @@ use borrow.Author.Tests.{leb-true, le-leb, lt-ltb}
 use Rattle.geom.specs.Plane.{floatOk, ptOk, rectOk}
 use Rattle.geom.proofs.Bools.{and-left, and-right, and-both}
 use Rattle.gfx.specs.Paints.{paintOk}
-use Rattle.sheet.specs.Bytes.{byteAt, floatAt, floats, zeros}
+use Rattle.sheet.specs.Bytes.{byteAt, floatAt, floatOkAt, floats, zeros}
 use Rattle.sheet.specs.Kinds.{kindAt, pointsAt, layoutAt, paintLayout, paintBytesOk, bytesOk, paintFloatsOk, floatsOk, depthAfter}
 use Rattle.sheet.specs.Check.{offsetOf}
 use Rattle.sheet.proofs.Places.{each}
@@ -36,7 +36,7 @@ itemOk s depth Unknown = false
 module _ (s : List ℕ) (p n : ℕ) (e : floats s p n ≡ true) where
   -- the one at q
   float-ok : (i q : ℕ) → i < n → p + 4 * i ≡ q → floatOk (floatAt s q) ≡ true
-  float-ok i q h r = rw r at (each (λ t. floatOk (floatAt s t)) 4 p n i e h)
+  float-ok i q h r = rw r at (each (floatOkAt s) 4 p n i e h)
 
   -- the point at q
   pt-ok : (i q : ℕ) → i + 1 < n → p + 4 * i ≡ q → ptOk (readPt s q) ≡ true
@@ -53,7 +53,7 @@ module _ (s : List ℕ) (p n : ℕ) (e : floats s p n ≡ true) where
       (float-ok 2 (p + 8) (omega arith) (omega arith)))
       (float-ok 3 (p + 12) (omega arith) (omega arith))
 
--- a number from m to n, by whether it is m
+-- a number that is m or more, by whether it is m
 least : {A : Type 0} (m n : ℕ) → m ≤ n → (n ≡ m → A) → (m < n → A) → A
 least m n h f g = ⊎-elim (λ q. f (sym q)) g (eq-or-lt-of-le h)
 
@@ -104,10 +104,12 @@ module _ (s : List ℕ) (at : ℕ) (b : bytesOk s at ≡ true) (f : floatsOk s a
   unfolding itemOk readItem bytesOk floatsOk layoutAt
   fill-ok depth k =
       let own = and-left _ (paintFloatsOk s (at + 24)) (simp k at f) in
+      let bytes = and-right (zeros s (at + 1) 3 && true) (paintBytesOk s (at + 24)) (simp k at b) in
+      let inks = and-right (floats s (at + 4) 5) (paintFloatsOk s (at + 24)) (simp k at f) in
       simp k
       (and-both
       (and-both (rect-ok s (at + 4) 5 own (omega arith)) (float-ok s (at + 4) 5 own 4 (at + 20) (omega arith) (omega arith)))
-      (paint-ok s (at + 24) (and-right (zeros s (at + 1) 3 && true) (paintBytesOk s (at + 24)) (simp k at b)) (and-right (floats s (at + 4) 5) (paintFloatsOk s (at + 24)) (simp k at f))))
+      (paint-ok s (at + 24) bytes inks))
 
   stroke-ok : (depth : ℕ) → kindAt s at ≡ 4 → Ok depth
   unfolding itemOk readItem floatsOk layoutAt
@@ -125,10 +127,10 @@ module _ (s : List ℕ) (at : ℕ) (b : bytesOk s at ≡ true) (f : floatsOk s a
   poly-ok : (depth : ℕ) → kindAt s at ≡ 6 → pointsAt s at ≤ 64 → Ok depth
   unfolding itemOk readItem bytesOk floatsOk layoutAt
   poly-ok depth k h =
-      simp k
-      (and-both
-      (and-both (le-leb (pointsAt s at) 64 h) (and-left _ (paintFloatsOk s (at + 4)) (simp k at f)))
-      (paint-ok s (at + 4) (and-right (zeros s (at + 1) 1 && true) (paintBytesOk s (at + 4)) (simp k at b)) (and-right (floats s (at + 32) (2 * pointsAt s at)) (paintFloatsOk s (at + 4)) (simp k at f))))
+      let own = and-left _ (paintFloatsOk s (at + 4)) (simp k at f) in
+      let bytes = and-right (zeros s (at + 1) 1 && true) (paintBytesOk s (at + 4)) (simp k at b) in
+      let inks = and-right (floats s (at + 32) (2 * pointsAt s at)) (paintFloatsOk s (at + 4)) (simp k at f) in
+      simp k (and-both (and-both (le-leb (pointsAt s at) 64 h) own) (paint-ok s (at + 4) bytes inks))
 
   shadow-ok : (depth : ℕ) → kindAt s at ≡ 7 → Ok depth
   unfolding itemOk readItem floatsOk layoutAt

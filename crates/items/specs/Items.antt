@@ -1,14 +1,15 @@
 -- The items of a sheet as values (document 01, "The sheet"). `s` is the sheet, p a place in it. Reading is total: past the end a byte is 0,
 -- and a kind that no accepted sheet has is an item that draws nothing. Assumes nothing.
-use Prim.Native.Nat.{ℕ, _+_}
+use Prim.Native.Nat.{ℕ, zero, suc, _+_}
 use mathlib.Core.Bool.{cond}
 use mathlib.Core.List.{List, [], _∷_}
 use lib.Dec.{ltb, eqb}
+use lib.Ieee.{Float}
 use Rattle.geom.specs.declared.Pt.{Pt}
 use Rattle.geom.specs.declared.Rect.{Rect}
 use Rattle.geom.specs.Plane.{ptOf, rectOf}
 use Rattle.color.specs.declared.Color.{Color}
-use Rattle.color.specs.Colours.{rgbaOf}
+use Rattle.color.specs.Colours.{rgbOf, rgbaOf}
 use Rattle.gfx.specs.declared.paints.Paint.{Paint}
 use Rattle.gfx.specs.declared.paints.Paint.the-variants.{Solid, VGrad, Linear, Radial}
 use Rattle.sheet.specs.Bytes.{byteAt, floatAt, lookup}
@@ -17,7 +18,11 @@ use Rattle.sheet.specs.Check.{countOf, offsetOf}
 use Rattle.items.specs.declared.Item.{Item}
 use Rattle.items.specs.declared.Item.the-variants.{Push, Pop, Fill, Stroke, Line, Poly, Shadow, Unknown}
 
--- R G B A
+-- the ground: R G B
+abbrev pub groundOf : List ℕ → Color
+groundOf s = rgbOf (byteAt s 4) (byteAt s 5) (byteAt s 6)
+
+-- a colour: R G B A
 abbrev pub readColor : List ℕ → ℕ → Color
 readColor s p = rgbaOf (byteAt s p) (byteAt s (p + 1)) (byteAt s (p + 2)) (byteAt s (p + 3))
 
@@ -73,3 +78,8 @@ readItem s p =
 -- the item k, counted from 0, of a sheet that has so many
 unfoldable pub itemAt : List ℕ → ℕ → Item
 itemAt s k = cond (ltb k (countOf s)) (readItem s (offsetOf s k)) Unknown
+
+-- n coordinates from p on, x y x y
+unfoldable pub coordsFrom : List ℕ → ℕ → ℕ → List Float
+coordsFrom s p zero = []
+coordsFrom s p (suc n) = floatAt s p ∷ coordsFrom s (p + 4) n

@@ -3,12 +3,12 @@ use color::Color;
 use geom::Pt;
 use geom::Rect;
 use gfx::Paint;
-use sheet::bytes::byte_at;
-use sheet::bytes::f32_at;
-use sheet::bytes::u16_at;
+use sheet::byte_at;
+use sheet::f32_at;
+use sheet::u16_at;
 ghost use mathlib.Core.Path.{_≡_};
 ghost use Prim.Native.Nat.{_<_};
-ghost use Rattle.items.specs.Items.{readColor, readPt, readRect, readPaint, readFill, readStroke, readLine, readPoly, readShadow, readItem, itemAt};
+ghost use Rattle.items.specs.Items.{readColor, readPt, readRect, readPaint, readFill, readStroke, readLine, readPoly, readShadow, readItem, itemAt, coordsFrom, groundOf};
 
 pub mod reader;
 
@@ -35,7 +35,7 @@ pub enum Item {
     },
     Poly {
         paint: Paint,
-        first: usize,
+        first: u32,
         count: usize,
     },
     Shadow {
@@ -47,6 +47,13 @@ pub enum Item {
     },
     // A kind that no accepted sheet has; it draws nothing.
     Unknown,
+}
+
+// The ground of a sheet: bytes 4 to 6.
+pub fn ground(s: &[u8]) -> Color
+    ensures { λ r. ⌜ r ≡ groundOf (now (s .entry)) ⌝ }
+{
+    Color::rgb(byte_at(s, 4), byte_at(s, 5), byte_at(s, 6))
 }
 
 fn read_color(s: &[u8], p: usize) -> Color
@@ -151,7 +158,7 @@ fn read_poly(s: &[u8], p: usize) -> Item
 {
     Item::Poly {
         paint: read_paint(s, p + 4),
-        first: p + 32,
+        first: p as u32 + 32,
         count: u16_at(s, p + 2),
     }
 }
@@ -167,6 +174,17 @@ fn read_shadow(s: &[u8], p: usize) -> Item
         color: read_color(s, p + 28),
         skip_inside: byte_at(s, p + 1) == 1,
     }
+}
+
+// The coordinates of 64 points from a byte on, x y x y; a polygon has the first of them.
+pub fn coords(s: &[u8], first: u32) -> [f32; 128]
+    ensures { λ r. ⌜ r ≡ coordsFrom (now (s .entry)) first 128 ⌝ }
+{
+    let mut xs = [0.0; 128];
+    for i in 0..128 {
+        xs[i] = f32_at(s, first as usize + 4 * i);
+    }
+    xs
 }
 
 // The item that starts at p.

@@ -26,13 +26,19 @@ unfoldable pub allAt : (ℕ → Bool) → ℕ → ℕ → ℕ → Bool
 allAt test step at zero = true
 allAt test step at (suc n) = test at && allAt test step (at + step) n
 
--- n zero bytes from a place on
-abbrev pub zeros : List ℕ → ℕ → ℕ → Bool
-zeros s at n = allAt (λ p. eqb (byteAt s p) 0) 1 at n
+-- a byte is zero, and n from a place on are
+abbrev pub zeroAt : List ℕ → ℕ → Bool
+zeroAt s at = eqb (byteAt s at) 0
 
--- n floats from a place on, each finite and within 8,192 of 0
+abbrev pub zeros : List ℕ → ℕ → ℕ → Bool
+zeros s at n = allAt (zeroAt s) 1 at n
+
+-- a float is finite and within 8,192 of 0, and n from a place on are
+abbrev pub floatOkAt : List ℕ → ℕ → Bool
+floatOkAt s at = floatOk (floatAt s at)
+
 abbrev pub floats : List ℕ → ℕ → ℕ → Bool
-floats s at n = allAt (λ p. floatOk (floatAt s p)) 4 at n
+floats s at n = allAt (floatOkAt s) 4 at n
 
 -- a table of numbers and what stands beside each: what stands beside k, or d where k is not there
 abbrev pub lookup : {A : Type 0} → ℕ → List (ℕ × A) → A → A

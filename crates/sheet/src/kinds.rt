@@ -9,13 +9,13 @@ ghost use Rattle.sheet.specs.Kinds.{row, layoutOf, layoutAt, paintLayout
 
 // Where the fields of an item, or of a paint, lie, counted from its first byte: its length; the bytes that it leaves zero, from `zero` on;
 // its floats, from `float` on; its paint, 0 where it has none.
-pub struct Layout {
-    pub length: u32,
-    pub zero: u8,
-    pub zeros: u8,
-    pub float: u8,
-    pub floats: u32,
-    pub paint: u8,
+struct Layout {
+    length: u32,
+    zero: u8,
+    zeros: u8,
+    float: u8,
+    floats: u32,
+    paint: u8,
 }
 
 fn row(length: u32, zero: u8, zeros: u8, float: u8, floats: u32, paint: u8) -> Layout

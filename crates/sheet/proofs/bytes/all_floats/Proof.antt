@@ -1,13 +1,10 @@
 -- `sheet::bytes::all_floats` meets its contract. Assumes nothing.
-use native.Mathlib.Nat.{sub-zero}
-use native.Mathlib.Nat.{add-zero}
+use native.Mathlib.Nat.{add-zero, sub-zero}
 use borrow.Author.Tests.{not-true, not-false}
-use Rattle.geom.specs.Plane.{floatOk}
-use Rattle.sheet.specs.Bytes.{floatAt}
 use Prim.Native.Nat.{_+_, _-_, _*_, _≤_}
 use mathlib.Core.Path.{_≡_, sym, _∙_}
 use native.Mathlib.Omega.{arith}
-use Rattle.sheet.specs.Bytes.{floats}
+use Rattle.sheet.specs.Bytes.{floatOkAt, floats}
 use Rattle.sheet.proofs.Places.{all-stop, all-turn, all-done}
 use borrow.Author.Needs.{needs}
 use Rattle.sheet.proofs.bytes.all_floats.Statement.{statement}
@@ -38,7 +35,7 @@ returns : tie.Need-returns Inv-loop μ-loop
 returns c =
     let a = c .before .before .before .before .before .before .args in
     let l = c .before .before .before .before .loop in
-    sym (all-stop (λ p. floatOk (floatAt (a .s .now) p)) 4 (a .at + 4 * l .i) (a .n - l .i) (omega arith) (rw (← c .before .before .f32-at .ensures) (sym (c .before .float-ok .ensures) ∙ not-true _ (c .if1 .taken)))) ∙ l .inv .1
+    sym (all-stop (floatOkAt (a .s .now)) 4 (a .at + 4 * l .i) (a .n - l .i) (omega arith) (rw (← c .before .before .f32-at .ensures) (sym (c .before .float-ok .ensures) ∙ not-true _ (c .if1 .taken)))) ∙ l .inv .1
 
 add-i : tie.Need-add-i Inv-loop μ-loop
 add-i c = search needs
@@ -50,13 +47,13 @@ loop-again : tie.Need-loop-again Inv-loop μ-loop
 loop-again c =
     let a = c .before .before .before .before .before .before .args in
     let l = c .before .before .before .before .loop in
-    (omega arith, sym (all-turn (λ p. floatOk (floatAt (a .s .now) p)) 4 (a .at + 4 * l .i) (a .n - l .i) (a .at + 4 * (l .i + 1)) (a .n - (l .i + 1)) (omega arith) (omega arith) (rw (← c .before .before .f32-at .ensures) (sym (c .before .float-ok .ensures) ∙ not-false _ (c .if1 .left)))) ∙ l .inv .1)
+    (omega arith, sym (all-turn (floatOkAt (a .s .now)) 4 (a .at + 4 * l .i) (a .n - l .i) (a .at + 4 * (l .i + 1)) (a .n - (l .i + 1)) (omega arith) (omega arith) (rw (← c .before .before .f32-at .ensures) (sym (c .before .float-ok .ensures) ∙ not-false _ (c .if1 .left)))) ∙ l .inv .1)
 
 returns-2 : tie.Need-returns-2 Inv-loop μ-loop
 returns-2 c =
     let a = c .before .before .before .args in
     let l = c .before .loop in
-    sym (all-done (λ p. floatOk (floatAt (a .s .now) p)) 4 (a .at + 4 * l .i) (a .n - l .i) (omega arith)) ∙ l .inv .1
+    sym (all-done (floatOkAt (a .s .now)) 4 (a .at + 4 * l .i) (a .n - l .i) (omega arith)) ∙ l .inv .1
 
 pub all-floats-spec : {M : Type 1} → statement M
 all-floats-spec =

@@ -1,13 +1,10 @@
 -- `sheet::bytes::all_zero` meets its contract. Assumes nothing.
-use native.Mathlib.Nat.{sub-zero}
-use native.Mathlib.Nat.{add-zero}
+use native.Mathlib.Nat.{add-zero, sub-zero}
 use borrow.Author.Tests.{ne-eqb, eq-eqb}
-use lib.Dec.{eqb}
-use Rattle.sheet.specs.Bytes.{byteAt}
 use Prim.Native.Nat.{_+_, _-_, _≤_}
 use mathlib.Core.Path.{_≡_, sym, _∙_}
 use native.Mathlib.Omega.{arith}
-use Rattle.sheet.specs.Bytes.{zeros}
+use Rattle.sheet.specs.Bytes.{zeroAt, zeros}
 use Rattle.sheet.proofs.Places.{all-stop, all-turn, all-done}
 use borrow.Author.Needs.{needs}
 use Rattle.sheet.proofs.bytes.all_zero.Statement.{statement}
@@ -32,7 +29,7 @@ returns : tie.Need-returns Inv-loop μ-loop
 returns c =
     let a = c .before .before .before .before .before .args in
     let l = c .before .before .before .loop in
-    sym (all-stop (λ p. eqb (byteAt (a .s .now) p) 0) 1 (a .at + l .i) (a .n - l .i) (omega arith) (ne-eqb _ 0 (rw (c .before .byte-at .ensures) at (c .if1 .taken)))) ∙ l .inv .1
+    sym (all-stop (zeroAt (a .s .now)) 1 (a .at + l .i) (a .n - l .i) (omega arith) (ne-eqb _ 0 (rw (c .before .byte-at .ensures) at (c .if1 .taken)))) ∙ l .inv .1
 
 add-i : tie.Need-add-i Inv-loop μ-loop
 add-i c = search needs
@@ -44,13 +41,13 @@ loop-again : tie.Need-loop-again Inv-loop μ-loop
 loop-again c =
     let a = c .before .before .before .before .before .args in
     let l = c .before .before .before .loop in
-    (omega arith, sym (all-turn (λ p. eqb (byteAt (a .s .now) p) 0) 1 (a .at + l .i) (a .n - l .i) (a .at + (l .i + 1)) (a .n - (l .i + 1)) (omega arith) (omega arith) (eq-eqb _ 0 (rw (c .before .byte-at .ensures) at (c .if1 .left)))) ∙ l .inv .1)
+    (omega arith, sym (all-turn (zeroAt (a .s .now)) 1 (a .at + l .i) (a .n - l .i) (a .at + (l .i + 1)) (a .n - (l .i + 1)) (omega arith) (omega arith) (eq-eqb _ 0 (rw (c .before .byte-at .ensures) at (c .if1 .left)))) ∙ l .inv .1)
 
 returns-2 : tie.Need-returns-2 Inv-loop μ-loop
 returns-2 c =
     let a = c .before .before .before .args in
     let l = c .before .loop in
-    sym (all-done (λ p. eqb (byteAt (a .s .now) p) 0) 1 (a .at + l .i) (a .n - l .i) (omega arith)) ∙ l .inv .1
+    sym (all-done (zeroAt (a .s .now)) 1 (a .at + l .i) (a .n - l .i) (omega arith)) ∙ l .inv .1
 
 pub all-zero-spec : {M : Type 1} → statement M
 all-zero-spec =
