@@ -1,6 +1,6 @@
 -- Pushing and popping a clip leave a state sound: valid, with its 16 places. Assumes nothing.
 use mathlib.Core.Path.{_≡_, refl, sym, _∙_}
-use mathlib.Core.Bool.{true, cond, or-true}
+use mathlib.Core.Bool.{true, cond, or-true, _&&_}
 use mathlib.Core.Logic.{⊎-elim}
 use Prim.Native.Nat.{ℕ, _+_, _-_, _<_, _≤_}
 use native.Mathlib.Nat.{eq-or-lt-of-le}
@@ -10,13 +10,18 @@ use lib.Dec.{ltb, eqb}
 use lib.IntN.{ℤ, pos}
 use lib.ListN.{length, length-set, getD-replicate}
 use lib.Seq.{getD-set-same, getD-set-other}
-use Rattle.geom.proofs.Bools.{split}
+use Rattle.geom.proofs.Bools.{split, and-left, and-right}
 use Rattle.geom.proofs.Int.{le-leZ}
 use Rattle.geom.specs.declared.IRect.{IRect}
 use Rattle.geom.specs.Box.{boxOf, empty, noBox}
 use Rattle.gfx.proofs.Places.{places-at, places-all}
 use Rattle.gfx.proofs.Valid.{clip-meet, valid-of, of-valid, valid-depth}
 use Rattle.gfx.specs.State.{inCanvas, rangeIn, sideOk, clipOk, bothZero, fourZeros, savedAt, placeOk, validOf, freshOf, pushed, unsaved, popped}
+use Rattle.geom.specs.Plane.{outerOf}
+use Rattle.geom.specs.declared.Rect.{Rect}
+use Rattle.gfx.proofs.Answers.{passed}
+use Rattle.gfx.proofs.Sizes.{push-room, push-box-room}
+use Rattle.gfx.specs.Calls.{raised, sizeNumber, newNumber, resizeNumber, sameSize, resized, pushBoxNumber, pushNumber}
 use Rattle.gfx.specs.declared.Canvas.{Canvas}
 
 pub record Sound (c : Canvas) : Type 0 where
@@ -137,3 +142,26 @@ module _ (w h : ℤ) (p : sideOk w ≡ true) (q : sideOk h ≡ true) where
             });
         sized = refl;
       }
+
+-- ---- the calls: an accepted one returns a sound state, from a sound one where it takes one
+
+size-sound : (w h : ℤ) (n : ℕ) → sizeNumber w h n ≡ 0 → Sound (freshOf w h)
+unfolding sizeNumber
+size-sound w h n e =
+    let t = passed (sideOk w && sideOk h) 1 _ e .0 in
+    fresh-sound w h (and-left (sideOk w) (sideOk h) t) (and-right (sideOk w) (sideOk h) t)
+
+pub new-sound : (w h : ℤ) (n : ℕ) → newNumber w h n ≡ 0 → Sound (freshOf (raised w) (raised h))
+new-sound w h n e = size-sound (raised w) (raised h) n e
+
+pub resize-sound : (c : Canvas) (w h : ℤ) (n : ℕ) → Sound c → resizeNumber c w h n ≡ 0 → Sound (resized c w h)
+unfolding resizeNumber resized
+resize-sound c w h n s e =
+    split (sameSize c w h) (λ t. Sound (cond t c (freshOf (raised w) (raised h)))) (λ k. s)
+    (λ k. size-sound (raised w) (raised h) n (passed (validOf c) 11 _ e .1))
+
+pub push-clip-sound : (c : Canvas) (r : Rect) → Sound c → pushNumber c r ≡ 0 → Sound (pushed c (outerOf r))
+push-clip-sound c r s e = push-sound c (outerOf r) s (push-room c r e)
+
+pub push-clip-i-sound : (c : Canvas) (b : IRect) → Sound c → pushBoxNumber c ≡ 0 → Sound (pushed c b)
+push-clip-i-sound c b s e = push-sound c b s (push-box-room c e)
