@@ -56,7 +56,7 @@ fn drawn(name: &str, target: &str, calls: &[Call]) {
         theirs.round(|| calls.iter().for_each(|call| black_box(call).draw(&mut canvas)));
     }
     assert!(px == canvas.px);
-    println!("| {name} | {:.1} | {:.1} | {:.2} | {target} |", ours.0 / 1e3, theirs.0 / 1e3, ours.0 / theirs.0);
+    println!("| {name} | {:.2} | {:.2} | {:.2} | {target} |", ours.0 / 1e3, theirs.0 / 1e3, ours.0 / theirs.0);
 }
 
 /// A call at a place: numbers of shape f, of 200 × 100 where it has sides.
@@ -80,6 +80,7 @@ fn at(f: u32, kind: u32, x: f32, y: f32, alpha: u32) -> Call {
 
 fn shapes() {
     println!("\n| shape, on 640 × 400 | Rattle µs | Rust µs | ratio | target |\n|---|---|---|---|---|");
+    drawn("fill of no size: the call alone", "", &[Call { coords: vec![0.0; 4], ..at(6, 0, 0.0, 0.0, 255) }]);
     drawn("fill, opaque, 200 × 100", "1.0", &[at(6, 0, 20.0, 30.0, 255)]);
     drawn("fill, alpha 128, 200 × 100", "1.0", &[at(6, 0, 20.0, 30.0, 128)]);
     drawn("fill, rounded, gradient down", "1.0", &[at(5, 1, 20.5, 30.5, 255)]);
