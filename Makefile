@@ -1,6 +1,6 @@
 # make test: the gate, then a short comparison with the unchanged Rust. make ticket: what there is to see.
-# make compare: the comparison at scale, in minutes. make bench: speed beside the Rust.
-.PHONY: test ticket compare bench
+# make compare: the comparison at scale, in minutes. make shapes: of the shapes alone. make bench: speed beside the Rust.
+.PHONY: test ticket compare shapes bench
 
 test:
 	@bash tools/test
@@ -10,6 +10,9 @@ ticket:
 
 compare:
 	@bash oracle/compare
+
+shapes:
+	@bash oracle/compare shapes
 
 bench:
 	@bash oracle/bench

@@ -6,6 +6,7 @@ use crate::canvas;
 use crate::canvas::irect;
 use crate::canvas::rect;
 use crate::paints;
+use crate::shapes;
 use crate::word::float_of;
 use crate::word::pair;
 use crate::word::word;
@@ -21,6 +22,8 @@ pub const CANVAS: u32 = 3;
 
 pub const PAINT: u32 = 4;
 
+pub const SHAPE: u32 = 5;
+
 // How many words a case of an area has.
 pub fn width(area: u32) -> u32
     ensures { λ r. ⌜ r ≤ 157 ⌝ }
@@ -30,7 +33,8 @@ pub fn width(area: u32) -> u32
         1 => 8,
         2 => 13,
         3 => 157,
-        _ => 10,
+        4 => 10,
+        _ => 97,
     }
 }
 
@@ -89,6 +93,7 @@ pub fn agrees(area: u32, bytes: &[u8], at: u32) -> bool
         1 => color(bytes, at),
         2 => geom(bytes, at),
         3 => canvas::agrees(bytes, at),
-        _ => paints::agrees(bytes, at),
+        4 => paints::agrees(bytes, at),
+        _ => shapes::agrees(bytes, at),
     }
 }

@@ -120,7 +120,7 @@ fn same_saved(a: [IRect; 16], b: [IRect; 16]) -> bool {
     same
 }
 
-fn same_state(a: Canvas, b: Canvas) -> bool {
+pub(crate) fn same_state(a: Canvas, b: Canvas) -> bool {
     let sides = (bits(a.w) == bits(b.w)) & (bits(a.h) == bits(b.h)) & (a.depth == b.depth);
     let p = a.saved;
     let q = b.saved;
@@ -128,7 +128,7 @@ fn same_state(a: Canvas, b: Canvas) -> bool {
 }
 
 // Pixels that run from a base in equal steps.
-fn fill(px: &mut [u32], base: u32, step: u32) {
+pub(crate) fn fill(px: &mut [u32], base: u32, step: u32) {
     let mut v = base;
     for i in 0..px.len() {
         px[i] = v;
@@ -200,13 +200,13 @@ fn run(bytes: &[u8], at: u32, px: &mut [u32]) -> bool
     left & same_answer(r, bytes, at + 79) & same_state(r.canvas, state(bytes, at + 86))
 }
 
-fn space() -> [u32; 2048]
+pub(crate) fn space() -> [u32; 2048]
     ensures { λ r. ⌜ 2048 ≡ length r ⌝ }
 {
     [0; 2048]
 }
 
-fn at_most_2048(n: u32) -> usize
+pub(crate) fn at_most_2048(n: u32) -> usize
     ensures { λ r. ⌜ r ≤ 2048 ⌝ }
 {
     if n < 2048 { n as usize } else { 2048 }

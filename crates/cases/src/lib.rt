@@ -7,6 +7,7 @@ pub mod boxes;
 mod canvas;
 mod paints;
 pub mod report;
+mod shapes;
 pub mod word;
 
 pub use crate::agree::CANVAS;
@@ -14,7 +15,9 @@ pub use crate::agree::COLOR;
 pub use crate::agree::GEOM;
 pub use crate::agree::MATHF;
 pub use crate::agree::PAINT;
+pub use crate::agree::SHAPE;
 pub use crate::report::buffer;
 pub use crate::report::differing;
 pub use crate::report::line;
 pub use crate::report::total;
+pub use crate::shapes::shape;

@@ -8,7 +8,7 @@ use geom::Pt;
 use gfx::Paint;
 ghost use Prim.Native.Nat.{_^_, _<_};
 
-fn float(bytes: &[u8], at: u32) -> f32 {
+pub(crate) fn float(bytes: &[u8], at: u32) -> f32 {
     float_of(word(bytes, at))
 }
 
@@ -20,7 +20,7 @@ fn point(bytes: &[u8], at: u32) -> Pt
 }
 
 // The paint of a kind: four floats and two colours, of which a kind takes what it needs.
-fn paint(kind: u32, bytes: &[u8], at: u32) -> Paint
+pub(crate) fn paint(kind: u32, bytes: &[u8], at: u32) -> Paint
     requires { ⌜ at < 2 ^ 30 ⌝ }
 {
     let c0 = color_of(word(bytes, at + 4));

@@ -1,5 +1,6 @@
 //! What the unchanged Rust answers, function by function, in the form in which answers are stored and compared: words of 32 bits.
 //! A function's number is its place in its module's list of names, counted from 1.
+pub mod branches;
 pub mod canvas;
 pub mod color;
 pub mod geom;

@@ -6,6 +6,7 @@ mod color;
 mod geom;
 mod mathf;
 mod paint;
+mod shape;
 
 /// Cases of one area, in the order of its functions: each is a function's number, its inputs and the Rust's answer.
 struct Stored {
@@ -42,4 +43,5 @@ fn main() {
     geom::stored().write(&folder("replay_geom"));
     canvas::stored().write(&folder("replay_canvas"));
     paint::stored().write(&folder("replay_paint"));
+    shape::stored().write(&folder("replay_shapes"));
 }

@@ -9,7 +9,7 @@ mod raw {
         pub fn leaves_to_usize(xs: *const f32, n: usize, out: *mut usize, m: usize);
         pub fn leaves_to_i32(xs: *const f32, n: usize, out: *mut i32, m: usize);
         pub fn leaves_blend(px: *mut u32, n: usize, r: u8, g: u8, b: u8, a: u8);
-        pub fn leaves_shape(f: u32, words: *const u32, n: usize, px: *mut u32, m: usize) -> u32;
+        pub fn leaves_shape(bytes: *const u8, n: usize, px: *mut u32, m: usize, scratch: *mut f32, k: usize) -> u32;
         pub fn leaves_differing(bytes: *const u8, n: usize, area: u32) -> u32;
     }
 }
@@ -49,7 +49,12 @@ pub fn differing(area: u32, width: usize, words: &[u32]) -> u32 {
     unsafe { raw::leaves_differing(bytes.as_ptr(), bytes.len(), area) }
 }
 
-/// Draws a shape, and answers its number.
-pub fn shape(f: u32, words: &[u32], px: &mut [u32]) -> u32 {
-    unsafe { raw::leaves_shape(f, words.as_ptr(), words.len(), px.as_mut_ptr(), px.len()) }
+/// The bytes of a shape's words.
+pub fn bytes(words: &[u32]) -> Vec<u8> {
+    words.iter().flat_map(|w| w.to_le_bytes()).collect()
+}
+
+/// Draws a shape, and answers its number, or 99 where the state is not left as it was.
+pub fn shape(bytes: &[u8], px: &mut [u32], scratch: &mut [f32]) -> u32 {
+    unsafe { raw::leaves_shape(bytes.as_ptr(), bytes.len(), px.as_mut_ptr(), px.len(), scratch.as_mut_ptr(), scratch.len()) }
 }

@@ -1,10 +1,11 @@
 //! The proved leaf functions against the unchanged Rust: `whole` takes every f32 where a function has one input, else random cases by
-//! the ten million; `short` takes some hundred thousand. Exit status 1 where any answer differs.
+//! the ten million; `short` takes some hundred thousand; `shapes` takes the shapes alone. Exit status 1 where any answer differs.
 use answers::{
+    branches::{self, Taken},
     canvas::{Walk, WIDTH},
     color, geom, mathf, paint, pattern,
     random::{Random, SEED},
-    shape,
+    shape::{self, Scene},
 };
 use std::{env, process::exit, time::Instant};
 
@@ -203,41 +204,67 @@ fn paint_cases(run: &mut Run, random: &mut Random) {
     }
 }
 
-/// Shapes on small canvases, every pixel compared.
-fn shapes(run: &mut Run, random: &mut Random) {
-    for f in 1..=shape::NAMES.len() as u32 {
-        let (began, name) = (Instant::now(), shape::NAMES[f as usize - 1]);
-        let (cases, mut differ) = (if run.whole { 1_000_000 } else { 2000 }, 0);
-        for _ in 0..cases {
-            let mut s = shape::shape(f, random);
-            let number = native::shape(f, &s.words, &mut s.before);
-            if number != 0 || s.before != s.after {
-                differ += 1;
-                if differ <= 3 {
-                    println!("{name} differs: number {number}, {:08x?}", s.words);
+/// Draws a call on pixels and dirty scratch; whether pixels, number and every scratch word are as they must be.
+fn same_shape(words: &[u32], need: usize, px: &mut [u32], after: &[u32], random: &mut Random) -> bool {
+    let mut scratch = vec![f32::NAN; need + random.below(5) as usize];
+    let number = native::shape(&native::bytes(words), px, &mut scratch);
+    let (used, rest) = scratch.split_at(need);
+    let swept = used.iter().all(|x| x.to_bits() == 0) && rest.iter().all(|x| x.to_bits() == f32::NAN.to_bits());
+    number == 0 && swept && px == after
+}
+
+/// Sequences of shapes on one canvas, every pixel compared after each call.
+fn shapes(run: &mut Run, random: &mut Random, calls: u64) {
+    let (began, mut ran, mut differ) = (Instant::now(), [0; shape::NAMES.len()], [0; shape::NAMES.len()]);
+    let mut taken = Taken::default();
+    while ran.iter().sum::<u64>() < calls {
+        let mut scene = Scene::new(random);
+        let mut px = scene.canvas.px.clone();
+        while scene.left > 0 {
+            let call = scene.next(random);
+            let (words, f) = (call.words(&scene.canvas), call.f as usize - 1);
+            taken.count(&call, scene.canvas.clip());
+            call.draw(&mut scene.canvas);
+            ran[f] += 1;
+            if !same_shape(&words, call.need(), &mut px, &scene.canvas.px, random) {
+                differ[f] += 1;
+                if differ[f] <= 3 {
+                    println!("{} differs: {words:08x?}", shape::NAMES[f]);
                 }
+                px.copy_from_slice(&scene.canvas.px);
             }
         }
-        run.report(name, cases, differ, began);
+    }
+    for (f, name) in shape::NAMES.iter().enumerate() {
+        run.report(name, ran[f], differ[f], began);
+    }
+    for name in branches::NAMES {
+        if run.whole {
+            println!("{name:28} {:>11} times", taken.of(name));
+        }
+        assert!(taken.of(name) > 0, "no call took the branch {name}");
     }
 }
 
 fn main() {
-    let whole = match env::args().nth(1).as_deref() {
-        Some("whole") => true,
-        Some("short") => false,
-        _ => panic!("usage: compare whole|short"),
+    let (whole, leaves, calls) = match env::args().nth(1).as_deref() {
+        Some("whole") => (true, true, 3_000_000),
+        Some("shapes") => (true, false, 3_000_000),
+        Some("short") => (false, true, 60_000),
+        _ => panic!("usage: compare whole|shapes|short"),
     };
     let mut run = Run { whole, cases: 0, differ: 0 };
     let mut random = Random(SEED + 3);
-    one_float(&mut run);
-    blends(&mut run);
-    mathf_cases(&mut run, &mut random);
-    color_cases(&mut run, &mut random);
-    geom_cases(&mut run, &mut random);
-    paint_cases(&mut run, &mut random);
-    canvas_cases(&mut run, &mut random);
-    shapes(&mut run, &mut random);
+    if leaves {
+        one_float(&mut run);
+        blends(&mut run);
+        mathf_cases(&mut run, &mut random);
+        color_cases(&mut run, &mut random);
+        geom_cases(&mut run, &mut random);
+        paint_cases(&mut run, &mut random);
+        canvas_cases(&mut run, &mut random);
+    }
+    shapes(&mut run, &mut random, calls);
     println!("comparison with the Rust: {} cases, {} differences", run.cases, run.differ);
     if run.differ > 0 {
         exit(1);
