@@ -46,7 +46,7 @@ struct Round {
 }
 
 // The pixels around the rectangle; none where it has no width or no height.
-fn reach(rect: Rect) -> IRect
+pub fn fill_reach(rect: Rect) -> IRect
     ensures { λ b. ⌜ b ≡ fillReach rect ⌝ }
 {
     if rect.is_empty() {
@@ -289,7 +289,7 @@ fn filled(canvas: Canvas, px: &mut [u32], ok: bool, rect: Rect, r: f32, paint: P
     }
     let w = nat_of(canvas.w);
     let clip = canvas.clip;
-    let bb = clipped(reach(rect), clip);
+    let bb = clipped(fill_reach(rect), clip);
     let short = radius(rect, r);
     let s = round_of(rect, short);
     fill_box(px, w, bb, s, paint);

@@ -49,7 +49,7 @@ fn abs(x: f32) -> f32
 }
 
 // The pixels around the segment, half the width and one more on each side.
-fn reach(a: Pt, b: Pt, width: f32) -> IRect
+pub fn line_reach(a: Pt, b: Pt, width: f32) -> IRect
     ensures { λ r. ⌜ r ≡ lineReach a b width ⌝ }
 {
     let pad = width * 0.5 + 1.0;
@@ -124,7 +124,7 @@ fn draw_line(px: &mut [u32], w: usize, clip: IRect, a: Pt, b: Pt, width: f32, co
     requires { ⌜ AreaFits w (clipTo (lineReach a b width) clip) (length (now px)) ⌝ }
     ensures { λ _. ⌜ now (px .exit) ≡ drawn w clip (lineReach a b width) (lineInk a b width color) (now (px .entry)) ⌝ }
 {
-    let bb = clipped(reach(a, b, width), clip);
+    let bb = clipped(line_reach(a, b, width), clip);
     segment_box(px, w, bb, segment_of(a, b, width), color);
 }
 

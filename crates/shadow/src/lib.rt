@@ -24,7 +24,7 @@ ghost use Rattle.shadow.specs.Shadow.{shadowOk, shadowReach, levelOf, ta
 ghost use Rattle.shadow.specs.Spans.{Table, tableAlpha, flatInk, straightInk, cornerInk, straightRowInk, cornerRowInk};
 
 // The reach: nothing where the colour has no alpha or the blur is not above 0.
-fn shadow_reach(rect: Rect, blur: f32, c: Color) -> IRect
+pub fn shadow_reach(rect: Rect, blur: f32, c: Color) -> IRect
     ensures { λ b. ⌜ b ≡ shadowReach rect blur c ⌝ }
 {
     let a = c.a;

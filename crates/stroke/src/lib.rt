@@ -24,7 +24,7 @@ ghost use Rattle.gfx.specs.Paints.{circleRect};
 ghost use Rattle.stroke.specs.Stroke.{strokeOk, strokeReach, bandCover, fullRow, cornerRow, sideWidth, gapFrom, gapUpto, bandInk, outlineInk, strokeInk, ringOk};
 
 // The reach: nothing where the rectangle has no width or no height, or the colour no alpha.
-fn stroke_reach(rect: Rect, c: Color) -> IRect
+pub fn stroke_reach(rect: Rect, c: Color) -> IRect
     ensures { λ b. ⌜ b ≡ strokeReach rect c ⌝ }
 {
     if rect.is_empty() {

@@ -20,7 +20,7 @@ pitch c = c .nat-of .ensures ∙ rw (kept (c .before .before .before .before .be
 
 clip : (c : tie.After-clipped) → c .clipped .result
     ≡ clipTo (fillReach (c .before .before .before .before .before .before .before .before .args .rect)) (c .before .before .before .before .before .before .before .before .args .canvas .clip)
-clip c = c .clipped .ensures ∙ rw (c .before .reach .ensures)
+clip c = c .clipped .ensures ∙ rw (c .before .fill-reach .ensures)
 
 round : (c : tie.After-round-of) → c .round-of .result
     ≡ roundOf (c .before .before .before .before .before .before .before .before .before .before .args .rect) (radiusOf (c .before .before .before .before .before .before .before .before .before .before .args .rect) (c .before .before .before .before .before .before .before .before .before .before .args .r))
@@ -35,8 +35,8 @@ returns c = refused-call (c .before .shape-number .ensures) (c .if1 .taken)
 nat-of-requires : tie.Need-nat-of-requires
 nat-of-requires c κs = search needs
 
-reach-requires : tie.Need-reach-requires
-reach-requires c κs = search needs
+fill-reach-requires : tie.Need-fill-reach-requires
+fill-reach-requires c κs = search needs
 
 clipped-requires : tie.Need-clipped-requires
 clipped-requires c κs = search needs
@@ -79,7 +79,7 @@ filled-spec =
     shape-number-requires
     returns
     nat-of-requires
-    reach-requires
+    fill-reach-requires
     clipped-requires
     radius-requires
     round-of-requires

@@ -5,8 +5,8 @@ use Rattle.draw.proofs.Clips.{drawn-clip}
 use Rattle.line.proofs.draw_line.Statement.{statement}
 use Rattle.line.proofs.draw_line.Tie as tie
 
-reach-requires : tie.Need-reach-requires
-reach-requires c κs = search needs
+line-reach-requires : tie.Need-line-reach-requires
+line-reach-requires c κs = search needs
 
 clipped-requires : tie.Need-clipped-requires
 clipped-requires c κs = search needs
@@ -17,7 +17,7 @@ segment-of-requires c κs = search needs
 segment-box-requires : tie.Need-segment-box-requires
 segment-box-requires c κs =
     let d = c .before .before in
-    rw (d .clipped .ensures, d .before .reach .ensures) (d .before .before .before .pre)
+    rw (d .clipped .ensures, d .before .line-reach .ensures) (d .before .before .before .pre)
 
 same-length : tie.Need-same-length
 same-length c = search needs
@@ -26,8 +26,8 @@ returns : tie.Need-returns
 returns c =
     let s = c .before .before in
     let d = s .before .before .before in
-    rw (s .segment-box .ensures, s .before .segment-of .ensures, d .clipped .ensures, d .before .reach .ensures) (sym (drawn-clip _ _ _ _ _))
+    rw (s .segment-box .ensures, s .before .segment-of .ensures, d .clipped .ensures, d .before .line-reach .ensures) (sym (drawn-clip _ _ _ _ _))
 
 pub draw-line-spec : {M : Type 1} → statement M
 draw-line-spec =
-    tie.close (tie.spec reach-requires clipped-requires segment-of-requires segment-box-requires same-length returns)
+    tie.close (tie.spec line-reach-requires clipped-requires segment-of-requires segment-box-requires same-length returns)

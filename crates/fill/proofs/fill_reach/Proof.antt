@@ -1,9 +1,9 @@
--- `fill::reach` meets its contract. Assumes nothing.
+-- `fill::fill_reach` meets its contract. Assumes nothing.
 use Rattle.fill.specs.Fill.{fillReach}
 use Rattle.geom.specs.Box.{noBox}
 use borrow.Author.Needs.{needs}
-use Rattle.fill.proofs.reach.Statement.{statement}
-use Rattle.fill.proofs.reach.Tie as tie
+use Rattle.fill.proofs.fill_reach.Statement.{statement}
+use Rattle.fill.proofs.fill_reach.Tie as tie
 
 is-empty-requires : tie.Need-is-empty-requires
 is-empty-requires c κs = search needs
@@ -22,6 +22,6 @@ returns-2 : tie.Need-returns-2
 unfolding fillReach
 returns-2 c = rw (← (c .before .before .is-empty .ensures), c .before .if1 .left, c .from-rect-outer .ensures)
 
-pub reach-spec : {M : Type 1} → statement M
-reach-spec =
+pub fill-reach-spec : {M : Type 1} → statement M
+fill-reach-spec =
     tie.close (tie.spec is-empty-requires new-requires returns from-rect-outer-requires returns-2)
