@@ -1,6 +1,6 @@
 -- What is known of the items of an accepted sheet, for whoever draws them. Assumes nothing.
 use Prim.Native.Nat.{ℕ, zero, _+_, _-_, _*_, _<_, _≤_}
-use mathlib.Core.Path.{_≡_, refl, sym}
+use mathlib.Core.Path.{_≡_, refl, sym, _∙_}
 use mathlib.Core.Bool.{Bool, true, false, cond, _&&_}
 use mathlib.Core.List.{List}
 use mathlib.Core.Logic.{⊎-elim}
@@ -13,23 +13,24 @@ use Rattle.geom.proofs.Bools.{and-left, and-right, and-both}
 use Rattle.gfx.specs.Paints.{paintOk}
 use Rattle.sheet.specs.Bytes.{byteAt, floatAt, floatOkAt, floats, zeros}
 use Rattle.sheet.specs.Kinds.{kindAt, pointsAt, layoutAt, paintLayout, paintBytesOk, bytesOk, paintFloatsOk, floatsOk, depthAfter}
-use Rattle.sheet.specs.Check.{offsetOf}
+use Rattle.sheet.specs.Check.{bytesAt}
 use Rattle.sheet.proofs.Places.{each}
 use Rattle.sheet.proofs.Accepted.{AcceptedItem, depthBefore, kind-known, few-points, push-room}
-use Rattle.items.specs.Items.{readPt, readRect, readPaint, readFill, readStroke, readLine, readPoly, readShadow, readItem}
+use Rattle.items.specs.Items.{readPt, readRect, readPaint, readFill, readStroke, readLine, readPoly, readShadow, readItem, itemOf}
+use Rattle.sheet.proofs.Local.{least, kind-same, points-same, bytes-same, floats-same-item}
 use Rattle.items.specs.declared.Item.{Item}
 use Rattle.items.specs.declared.Item.the-variants.{Push, Pop, Fill, Stroke, Line, Poly, Shadow, Unknown}
 
--- what drawing an item asks of it where `depth` clips are saved: floats in range, room for a push, at most 64 points
+-- what drawing an item asks of it and its own bytes where `depth` clips are saved: floats in range, room for a push, at most 64 points
 unfoldable pub itemOk : List ℕ → ℕ → Item → Bool
-itemOk s depth (Push rect) = rectOk rect && ltb depth 16
-itemOk s depth Pop = true
-itemOk s depth (Fill rect r paint) = rectOk rect && floatOk r && paintOk paint
-itemOk s depth (Stroke rect r width color) = rectOk rect && floatOk r && floatOk width
-itemOk s depth (Line a b width color) = ptOk a && ptOk b && floatOk width
-itemOk s depth (Poly paint first count) = leb count 64 && floats s first (2 * count) && paintOk paint
-itemOk s depth (Shadow rect r blur color skip) = rectOk rect && floatOk r && floatOk blur
-itemOk s depth Unknown = false
+itemOk own depth (Push rect) = rectOk rect && ltb depth 16
+itemOk own depth Pop = true
+itemOk own depth (Fill rect r paint) = rectOk rect && floatOk r && paintOk paint
+itemOk own depth (Stroke rect r width color) = rectOk rect && floatOk r && floatOk width
+itemOk own depth (Line a b width color) = ptOk a && ptOk b && floatOk width
+itemOk own depth (Poly paint count) = leb count 64 && floats own 32 (2 * count) && paintOk paint
+itemOk own depth (Shadow rect r blur color skip) = rectOk rect && floatOk r && floatOk blur
+itemOk own depth Unknown = false
 
 -- ---- of n floats from p on that are in range
 
@@ -52,10 +53,6 @@ module _ (s : List ℕ) (p n : ℕ) (e : floats s p n ≡ true) where
       (and-both (float-ok 0 p (omega arith) (omega arith)) (float-ok 1 (p + 4) (omega arith) (omega arith)))
       (float-ok 2 (p + 8) (omega arith) (omega arith)))
       (float-ok 3 (p + 12) (omega arith) (omega arith))
-
--- a number that is m or more, by whether it is m
-least : {A : Type 0} (m n : ℕ) → m ≤ n → (n ≡ m → A) → (m < n → A) → A
-least m n h f g = ⊎-elim (λ q. f (sym q)) g (eq-or-lt-of-le h)
 
 -- a paint that passes 5 and 6
 pub paint-ok : (s : List ℕ) (p : ℕ) → paintBytesOk s p ≡ true → paintFloatsOk s p ≡ true → paintOk (readPaint s p) ≡ true
@@ -81,74 +78,79 @@ paint-ok s p b f =
 -- ---- items
 
 -- an item's rectangle and two floats after it
-rect-two : (s : List ℕ) (at : ℕ) → floats s (at + 4) 6 ≡ true
-    → rectOk (readRect s (at + 4)) && floatOk (floatAt s (at + 20)) && floatOk (floatAt s (at + 24)) ≡ true
-rect-two s at e =
+rect-two : (s : List ℕ) → floats s 4 6 ≡ true
+    → rectOk (readRect s 4) && floatOk (floatAt s 20) && floatOk (floatAt s 24) ≡ true
+rect-two s e =
     and-both
-    (and-both (rect-ok s (at + 4) 6 e (omega arith)) (float-ok s (at + 4) 6 e 4 (at + 20) (omega arith) (omega arith)))
-    (float-ok s (at + 4) 6 e 5 (at + 24) (omega arith) (omega arith))
+    (and-both (rect-ok s 4 6 e (omega arith)) (float-ok s 4 6 e 4 20 (omega arith) (omega arith)))
+    (float-ok s 4 6 e 5 24 (omega arith) (omega arith))
 
-module _ (s : List ℕ) (at : ℕ) (b : bytesOk s at ≡ true) (f : floatsOk s at ≡ true) where
+module _ (s : List ℕ) (b : bytesOk s 0 ≡ true) (f : floatsOk s 0 ≡ true) where
   abbrev Ok : ℕ → Type 0
-  Ok depth = itemOk s depth (readItem s at) ≡ true
+  Ok depth = itemOk s depth (itemOf s) ≡ true
 
-  push-ok : (depth : ℕ) → kindAt s at ≡ 1 → depth < 16 → Ok depth
+  push-ok : (depth : ℕ) → kindAt s 0 ≡ 1 → depth < 16 → Ok depth
   unfolding itemOk readItem floatsOk layoutAt
-  push-ok depth k h = simp k (and-both (rect-ok s (at + 4) 4 (and-left _ true (simp k at f)) (omega arith)) (lt-ltb depth 16 h))
+  push-ok depth k h = simp k (and-both (rect-ok s 4 4 (and-left _ true (simp k at f)) (omega arith)) (lt-ltb depth 16 h))
 
-  pop-ok : (depth : ℕ) → kindAt s at ≡ 2 → Ok depth
+  pop-ok : (depth : ℕ) → kindAt s 0 ≡ 2 → Ok depth
   unfolding itemOk readItem
   pop-ok depth k = simp k
 
-  fill-ok : (depth : ℕ) → kindAt s at ≡ 3 → Ok depth
+  fill-ok : (depth : ℕ) → kindAt s 0 ≡ 3 → Ok depth
   unfolding itemOk readItem bytesOk floatsOk layoutAt
   fill-ok depth k =
-      let own = and-left _ (paintFloatsOk s (at + 24)) (simp k at f) in
-      let bytes = and-right (zeros s (at + 1) 3 && true) (paintBytesOk s (at + 24)) (simp k at b) in
-      let inks = and-right (floats s (at + 4) 5) (paintFloatsOk s (at + 24)) (simp k at f) in
+      let own = and-left _ (paintFloatsOk s 24) (simp k at f) in
+      let bytes = and-right (zeros s 1 3 && true) (paintBytesOk s 24) (simp k at b) in
+      let inks = and-right (floats s 4 5) (paintFloatsOk s 24) (simp k at f) in
       simp k
       (and-both
-      (and-both (rect-ok s (at + 4) 5 own (omega arith)) (float-ok s (at + 4) 5 own 4 (at + 20) (omega arith) (omega arith)))
-      (paint-ok s (at + 24) bytes inks))
+      (and-both (rect-ok s 4 5 own (omega arith)) (float-ok s 4 5 own 4 20 (omega arith) (omega arith)))
+      (paint-ok s 24 bytes inks))
 
-  stroke-ok : (depth : ℕ) → kindAt s at ≡ 4 → Ok depth
+  stroke-ok : (depth : ℕ) → kindAt s 0 ≡ 4 → Ok depth
   unfolding itemOk readItem floatsOk layoutAt
-  stroke-ok depth k = simp k (rect-two s at (and-left _ true (simp k at f)))
+  stroke-ok depth k = simp k (rect-two s (and-left _ true (simp k at f)))
 
-  line-ok : (depth : ℕ) → kindAt s at ≡ 5 → Ok depth
+  line-ok : (depth : ℕ) → kindAt s 0 ≡ 5 → Ok depth
   unfolding itemOk readItem floatsOk layoutAt
   line-ok depth k =
       let own = and-left _ true (simp k at f) in
       simp k
       (and-both
-      (and-both (pt-ok s (at + 4) 5 own 0 (at + 4) (omega arith) (omega arith)) (pt-ok s (at + 4) 5 own 2 (at + 12) (omega arith) (omega arith)))
-      (float-ok s (at + 4) 5 own 4 (at + 20) (omega arith) (omega arith)))
+      (and-both (pt-ok s 4 5 own 0 4 (omega arith) (omega arith)) (pt-ok s 4 5 own 2 12 (omega arith) (omega arith)))
+      (float-ok s 4 5 own 4 20 (omega arith) (omega arith)))
 
-  poly-ok : (depth : ℕ) → kindAt s at ≡ 6 → pointsAt s at ≤ 64 → Ok depth
+  poly-ok : (depth : ℕ) → kindAt s 0 ≡ 6 → pointsAt s 0 ≤ 64 → Ok depth
   unfolding itemOk readItem bytesOk floatsOk layoutAt
   poly-ok depth k h =
-      let own = and-left _ (paintFloatsOk s (at + 4)) (simp k at f) in
-      let bytes = and-right (zeros s (at + 1) 1 && true) (paintBytesOk s (at + 4)) (simp k at b) in
-      let inks = and-right (floats s (at + 32) (2 * pointsAt s at)) (paintFloatsOk s (at + 4)) (simp k at f) in
-      simp k (and-both (and-both (le-leb (pointsAt s at) 64 h) own) (paint-ok s (at + 4) bytes inks))
+      let own = and-left _ (paintFloatsOk s 4) (simp k at f) in
+      let bytes = and-right (zeros s 1 1 && true) (paintBytesOk s 4) (simp k at b) in
+      let inks = and-right (floats s 32 (2 * pointsAt s 0)) (paintFloatsOk s 4) (simp k at f) in
+      simp k (and-both (and-both (le-leb (pointsAt s 0) 64 h) own) (paint-ok s 4 bytes inks))
 
-  shadow-ok : (depth : ℕ) → kindAt s at ≡ 7 → Ok depth
+  shadow-ok : (depth : ℕ) → kindAt s 0 ≡ 7 → Ok depth
   unfolding itemOk readItem floatsOk layoutAt
-  shadow-ok depth k = simp k (rect-two s at (and-left _ true (simp k at f)))
+  shadow-ok depth k = simp k (rect-two s (and-left _ true (simp k at f)))
 
 -- an item of an accepted sheet
-pub item-ok : (s : List ℕ) (k : ℕ) → AcceptedItem s k → itemOk s (depthBefore s k) (readItem s (offsetOf s k)) ≡ true
+pub item-ok : (s : List ℕ) (k : ℕ) → AcceptedItem s k → itemOk (bytesAt s k) (depthBefore s k) (itemOf (bytesAt s k)) ≡ true
 item-ok s k a =
-    let at = offsetOf s k in
+    let own = bytesAt s k in
+    let kind = kindAt own 0 in
     let d = depthBefore s k in
-    let high : kindAt s at ≤ 7 = kind-known s k a .1 in
-    least 1 (kindAt s at) (kind-known s k a .0) (λ e. push-ok s at (a .bytes) (a .floats) d e (push-room s k a e))
-    (λ h1. least 2 (kindAt s at) h1 (λ e. pop-ok s at (a .bytes) (a .floats) d e)
-    (λ h2. least 3 (kindAt s at) h2 (λ e. fill-ok s at (a .bytes) (a .floats) d e)
-    (λ h3. least 4 (kindAt s at) h3 (λ e. stroke-ok s at (a .bytes) (a .floats) d e)
-    (λ h4. least 5 (kindAt s at) h4 (λ e. line-ok s at (a .bytes) (a .floats) d e)
-    (λ h5. least 6 (kindAt s at) h5 (λ e. poly-ok s at (a .bytes) (a .floats) d e (few-points s k a e))
-    (λ h6. shadow-ok s at (a .bytes) (a .floats) d (omega arith)))))))
+    let same = kind-same s k a in
+    let b : bytesOk own 0 ≡ true = bytes-same s k a ∙ a .bytes in
+    let f : floatsOk own 0 ≡ true = floats-same-item s k a ∙ a .floats in
+    let low : 1 ≤ kind = rw same (kind-known s k a .0) in
+    let high : kind ≤ 7 = rw same (kind-known s k a .1) in
+    least 1 kind low (λ e. push-ok own b f d e (push-room s k a (sym same ∙ e)))
+    (λ h1. least 2 kind h1 (λ e. pop-ok own b f d e)
+    (λ h2. least 3 kind h2 (λ e. fill-ok own b f d e)
+    (λ h3. least 4 kind h3 (λ e. stroke-ok own b f d e)
+    (λ h4. least 5 kind h4 (λ e. line-ok own b f d e)
+    (λ h5. least 6 kind h5 (λ e. poly-ok own b f d e (rw (points-same s k a) (few-points s k a (sym same ∙ e))))
+    (λ h6. shadow-ok own b f d (omega arith)))))))
 
 -- how many clips are saved after an item, by its value
 abbrev pub savedAfter : Item → ℕ → ℕ
@@ -157,7 +159,7 @@ savedAfter Pop depth = depth - 1
 savedAfter (Fill rect r paint) depth = depth
 savedAfter (Stroke rect r width color) depth = depth
 savedAfter (Line a b width color) depth = depth
-savedAfter (Poly paint first count) depth = depth
+savedAfter (Poly paint count) depth = depth
 savedAfter (Shadow rect r blur color skip) depth = depth
 savedAfter Unknown depth = depth
 

@@ -1,9 +1,10 @@
--- The items of a sheet as values (document 01, "The sheet"). `s` is the sheet, p a place in it. Reading is total: past the end a byte is 0,
--- and a kind that no accepted sheet has is an item that draws nothing. Assumes nothing.
-use Prim.Native.Nat.{ℕ, zero, suc, _+_}
-use mathlib.Core.Bool.{cond}
+-- The items of a sheet as values (document 01, "The sheet"). An item is read from its own bytes, of which p is a place. Reading is total:
+-- past the end a byte is 0, and a kind that no accepted sheet has is an item that draws nothing. Assumes nothing.
+use Prim.Native.Nat.{ℕ, zero, suc, _+_, _*_}
+use mathlib.Core.Bool.{Bool, cond, _&&_}
 use mathlib.Core.List.{List, [], _∷_}
-use lib.Dec.{ltb, eqb}
+use lib.Dec.{ltb, leb, eqb}
+use lib.ListN.{length}
 use lib.Ieee.{Float}
 use Rattle.geom.specs.declared.Pt.{Pt}
 use Rattle.geom.specs.declared.Rect.{Rect}
@@ -14,7 +15,7 @@ use Rattle.gfx.specs.declared.paints.Paint.{Paint}
 use Rattle.gfx.specs.declared.paints.Paint.the-variants.{Solid, VGrad, Linear, Radial}
 use Rattle.sheet.specs.Bytes.{byteAt, floatAt, lookup}
 use Rattle.sheet.specs.Kinds.{kindAt, pointsAt}
-use Rattle.sheet.specs.Check.{countOf, offsetOf}
+use Rattle.sheet.specs.Check.{countOf, offsetOf, lengthOf, bytesAt}
 use Rattle.items.specs.declared.Item.{Item}
 use Rattle.items.specs.declared.Item.the-variants.{Push, Pop, Fill, Stroke, Line, Poly, Shadow, Unknown}
 
@@ -55,7 +56,7 @@ abbrev pub readLine : List ℕ → ℕ → Item
 readLine s p = Line (readPt s (p + 4)) (readPt s (p + 12)) (floatAt s (p + 20)) (readColor s (p + 24))
 
 abbrev pub readPoly : List ℕ → ℕ → Item
-readPoly s p = Poly (readPaint s (p + 4)) (p + 32) (pointsAt s p)
+readPoly s p = Poly (readPaint s (p + 4)) (pointsAt s p)
 
 abbrev pub readShadow : List ℕ → ℕ → Item
 readShadow s p =
@@ -75,11 +76,22 @@ readItem s p =
     ∷ [])
     Unknown
 
--- the item k, counted from 0, of a sheet that has so many
+-- the item that some bytes are
+abbrev pub itemOf : List ℕ → Item
+itemOf b = readItem b 0
+
+-- the item k, counted from 0, of a sheet that has it
+unfoldable pub hasItem : List ℕ → ℕ → Bool
+hasItem s k = ltb k (countOf s) && leb (offsetOf s k + lengthOf s k) (length s)
+
 unfoldable pub itemAt : List ℕ → ℕ → Item
-itemAt s k = cond (ltb k (countOf s)) (readItem s (offsetOf s k)) Unknown
+itemAt s k = cond (hasItem s k) (itemOf (bytesAt s k)) Unknown
 
 -- n coordinates from p on, x y x y
 unfoldable pub coordsFrom : List ℕ → ℕ → ℕ → List Float
 coordsFrom s p zero = []
 coordsFrom s p (suc n) = floatAt s p ∷ coordsFrom s (p + 4) n
+
+-- the m points of a polygon
+abbrev pub pointsOf : List ℕ → ℕ → List Float
+pointsOf b m = coordsFrom b 32 (2 * m)

@@ -8,11 +8,11 @@ use sheet::f32_at;
 use sheet::u16_at;
 ghost use mathlib.Core.Path.{_≡_};
 ghost use Prim.Native.Nat.{_<_};
-ghost use Rattle.items.specs.Items.{readColor, readPt, readRect, readPaint, readFill, readStroke, readLine, readPoly, readShadow, readItem, itemAt, coordsFrom, groundOf};
+ghost use Rattle.items.specs.Items.{readColor, readPt, readRect, readPaint, readFill, readStroke, readLine, readPoly, readShadow, readItem, itemOf, itemAt, coordsFrom, groundOf};
 
 pub mod reader;
 
-// What an item says. A polygon's coordinates stay in the sheet: `count` points, from the byte `first` on.
+// What an item says. A polygon's coordinates stay in its bytes: `count` points.
 pub enum Item {
     Push(Rect),
     Pop,
@@ -35,7 +35,6 @@ pub enum Item {
     },
     Poly {
         paint: Paint,
-        first: u32,
         count: usize,
     },
     Shadow {
@@ -158,7 +157,6 @@ fn read_poly(s: &[u8], p: usize) -> Item
 {
     Item::Poly {
         paint: read_paint(s, p + 4),
-        first: p as u32 + 32,
         count: u16_at(s, p + 2),
     }
 }
@@ -176,13 +174,13 @@ fn read_shadow(s: &[u8], p: usize) -> Item
     }
 }
 
-// The coordinates of 64 points from a byte on, x y x y; a polygon has the first of them.
-pub fn coords(s: &[u8], first: u32) -> [f32; 128]
-    ensures { λ r. ⌜ r ≡ coordsFrom (now (s .entry)) first 128 ⌝ }
+// The coordinates of 64 points, x y x y, in the bytes of a polygon; it has the first of them.
+pub fn coords(b: &[u8]) -> [f32; 128]
+    ensures { λ r. ⌜ r ≡ coordsFrom (now (b .entry)) 32 128 ⌝ }
 {
     let mut xs = [0.0; 128];
     for i in 0..128 {
-        xs[i] = f32_at(s, first as usize + 4 * i);
+        xs[i] = f32_at(b, 32 + 4 * i);
     }
     xs
 }
@@ -205,13 +203,24 @@ fn read_item(s: &[u8], p: usize) -> Item
     }
 }
 
+// The item that some bytes are.
+pub fn item_of(b: &[u8]) -> Item
+    ensures { λ r. ⌜ r ≡ itemOf (now (b .entry)) ⌝ }
+{
+    read_item(b, 0)
+}
+
 // The item k, counted from 0; `Unknown` where the sheet has none.
 pub fn item_at(s: &[u8], k: usize) -> Item
     ensures { λ r. ⌜ r ≡ itemAt (now (s .entry)) k ⌝ }
 {
-    if k < u16_at(s, 8) {
-        read_item(s, u16_at(s, 12 + 4 * k))
-    } else {
-        Item::Unknown
+    if k >= u16_at(s, 8) {
+        return Item::Unknown;
     }
+    let from = u16_at(s, 12 + 4 * k);
+    let to = from + u16_at(s, 14 + 4 * k);
+    if to > s.len() {
+        return Item::Unknown;
+    }
+    item_of(&s[from..to])
 }

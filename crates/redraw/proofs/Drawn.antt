@@ -43,7 +43,7 @@ module _ (K : Kind) (x y : ℕ) where
 
   agree-after : (i : Item (K .Shape)) (c d : Clips) → Agree c d → Agree (after i c) (after i d)
   unfolding after
-  agree-after (push b) c d a = record {
+  agree-after (push s b) c d a = record {
     clips = in-meet (c .clip) b (pos x) (pos y) ∙ ap (λ (t : Bool). t && inside b (pos x) (pos y)) (a .clips) ∙ sym (in-meet (d .clip) b (pos x) (pos y));
     saves = more (a .clips) (a .saves);
   }
@@ -54,7 +54,7 @@ module _ (K : Kind) (x y : ℕ) where
       → pixel K (steps items c) x y p ≡ pixel K (steps items d) x y p
   unfolding steps withStep after pixel meets
   same-clips [] c d p a = refl
-  same-clips (push b ∷ r) c d p a = same-clips r _ _ p (agree-after (push b) c d a)
+  same-clips (push s b ∷ r) c d p a = same-clips r _ _ p (agree-after (push s b) c d a)
   same-clips (pop ∷ r) c d p a = same-clips r _ _ p (agree-after pop c d a)
   same-clips (shape b ∷ r) c d p a =
       let m : Bool → ℕ = λ i. inked K (i && inside (K .reach b) (pos x) (pos y)) b x y p in
@@ -86,9 +86,9 @@ module _ {Shape : Type 0} (same : Item Shape → Item Shape → Bool) (sound : (
   both-shapes : (i j : Item Shape) {r s : List (Item Shape)} (c : Change Shape) (l : List (Shape × Shape))
       → ((k : List (Shape × Shape)) → c ≡ shapes k → Edited r s k) → bothShapes i j c ≡ shapes l → Edited (i ∷ r) (j ∷ s) l
   unfolding bothShapes
-  both-shapes (push b) j c l f e = absurd (never cc)
+  both-shapes (push s b) j c l f e = absurd (never cc)
   both-shapes pop j c l f e = absurd (never cc)
-  both-shapes (shape a) (push b) c l f e = absurd (never cc)
+  both-shapes (shape a) (push s b) c l f e = absurd (never cc)
   both-shapes (shape a) pop c l f e = absurd (never cc)
   both-shapes (shape a) (shape b) c l f e = with-pair a b c l f e
 
@@ -129,7 +129,7 @@ module _ (K : Kind) (x y : ℕ) where
       → (c : Clips) (p : ℕ) → pixel K (steps r c) x y p ≡ pixel K (steps s c) x y p
   unfolding steps withStep after pixel
   untouched none o c p = refl
-  untouched (keep (push b) e) o c p = untouched e o _ p
+  untouched (keep (push s b) e) o c p = untouched e o _ p
   untouched (keep pop e) o c p = untouched e o _ p
   untouched (keep (shape a) e) o c p = untouched e o c _
   untouched (swap a b {r = r} {s = s} {l = l} e) o c p =

@@ -8,8 +8,9 @@ use Rattle.geom.specs.declared.IRect.{IRect}
 use Rattle.geom.specs.Box.{inside, meet}
 use Rattle.draw.specs.Draw.{eachAt, drawn}
 
+-- an item: a push, by its bytes and by the box that the clip is cut to; a pop; a shape
 pub data Item (Shape : Type 0) : Type 0 where
-  push : IRect → Item Shape
+  push : List ℕ → IRect → Item Shape
   pop : Item Shape
   shape : Shape → Item Shape
 
@@ -29,7 +30,7 @@ popped c (d ∷ s) = record { clip = d; saved = s }
 
 -- the clips after an item
 unfoldable pub after : {Shape : Type 0} → Item Shape → Clips → Clips
-after (push b) c = record { clip = meet (c .clip) b; saved = c .clip ∷ c .saved }
+after (push s b) c = record { clip = meet (c .clip) b; saved = c .clip ∷ c .saved }
 after pop c = popped (c .clip) (c .saved)
 after (shape a) c = c
 
@@ -39,7 +40,7 @@ pub record Step (Shape : Type 0) : Type 0 where
   pub drawn : Shape
 
 unfoldable pub withStep : {Shape : Type 0} → Item Shape → IRect → List (Step Shape) → List (Step Shape)
-withStep (push b) c l = l
+withStep (push s b) c l = l
 withStep pop c l = l
 withStep (shape a) c l = record { under = c; drawn = a } ∷ l
 
@@ -94,7 +95,7 @@ module _ (K : Kind) where
 
   -- px after one item: a push or a pop leaves it
   unfoldable pub itemOn : ℕ → Item (K .Shape) → IRect → List ℕ → List ℕ
-  itemOn pitch (push b) c px = px
+  itemOn pitch (push s b) c px = px
   itemOn pitch pop c px = px
   itemOn pitch (shape a) c px = shapeOn pitch c a px
 

@@ -49,9 +49,9 @@ withPair a b other = other
 withPair a b (shapes l) = shapes ((a, b) ∷ l)
 
 unfoldable pub bothShapes : {Shape : Type 0} → Item Shape → Item Shape → Change Shape → Change Shape
-bothShapes (push b) j c = other
+bothShapes (push s b) j c = other
 bothShapes pop j c = other
-bothShapes (shape a) (push b) c = other
+bothShapes (shape a) (push s b) c = other
 bothShapes (shape a) pop c = other
 bothShapes (shape a) (shape b) c = withPair a b c
 

@@ -3,3 +3,4 @@ pub mod Places
 pub mod Tables
 pub mod Runs
 pub mod Accepted
+pub mod Local

@@ -2,7 +2,7 @@
 use Prim.Native.Nat.{ℕ, zero, suc, _+_, _*_}
 use mathlib.Core.List.{List}
 use mathlib.Core.Bool.{Bool, _&&_, cond}
-use lib.ListN.{length}
+use lib.ListN.{length, take, drop}
 use lib.Dec.{leb, eqb}
 use Rattle.gfx.specs.Calls.{unless}
 use Rattle.sheet.specs.Bytes.{u16At, zeros}
@@ -24,6 +24,10 @@ offsetOf s k = u16At s (12 + 4 * k)
 
 abbrev pub lengthOf : List ℕ → ℕ → ℕ
 lengthOf s k = u16At s (14 + 4 * k)
+
+-- the bytes of the item k
+abbrev pub bytesAt : List ℕ → ℕ → List ℕ
+bytesAt s k = take (lengthOf s k) (drop (offsetOf s k) s)
 
 -- 1: 12 to 60,000 bytes
 abbrev pub sizeOk : List ℕ → Bool
