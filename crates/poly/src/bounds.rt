@@ -10,7 +10,7 @@ ghost use lib.ListN.{length};
 ghost use Rattle.mathf.specs.Convert.{toI32};
 ghost use Rattle.mathf.specs.Whole.{floorOf, ceilOf};
 ghost use Rattle.gfx.specs.Points.{coordsOk};
-ghost use Rattle.poly.specs.Poly.{pointCount, pointAt, widened, extentOf, originOf, spanOf, polyBox, reachOf, polyNeed};
+ghost use Rattle.poly.specs.Poly.{pointCount, pointAt, widened, extentOf, originOf, spanOf, polyBox, reachOf, polyNeed, planOf};
 ghost use Rattle.poly.specs.Rooms.{Ranged, Near};
 
 // The least and the greatest coordinates.
@@ -27,6 +27,12 @@ pub struct PolyBox {
     pub oy: i32,
     pub bw: usize,
     pub bh: usize,
+}
+
+// What is painted: its box, and the scratch words that it needs. All zeros where nothing is painted.
+pub struct Plan {
+    pub g: PolyBox,
+    pub need: usize,
 }
 
 pub(crate) fn point_at(pts: &[f32], i: usize) -> Pt
@@ -119,4 +125,24 @@ pub(crate) fn need_of(pts: &[f32]) -> usize
         return 0;
     }
     (bw + 2) * bh + 2
+}
+
+// The box and the need of what is painted.
+pub(crate) fn plan_of(pts: &[f32]) -> Plan
+    requires { ⌜ (length (now pts) ≤ 128) × (coordsOk (now pts) ≡ true) ⌝ }
+    ensures { λ r. ⌜ r ≡ planOf (now (pts .entry)) ⌝ }
+{
+    let zero = PolyBox { ox: 0, oy: 0, bw: 0, bh: 0 };
+    let none = Plan { g: zero, need: 0 };
+    if pts.len() / 2 < 3 {
+        return none;
+    }
+    let g = poly_box(pts);
+    let bw = g.bw;
+    let bh = g.bh;
+    if bw * bh > 4000000 {
+        return none;
+    }
+    let need = (bw + 2) * bh + 2;
+    Plan { g, need }
 }
