@@ -132,7 +132,12 @@ pub(crate) fn plan_of(pts: &[f32]) -> Plan
     requires { ⌜ (length (now pts) ≤ 128) × (coordsOk (now pts) ≡ true) ⌝ }
     ensures { λ r. ⌜ r ≡ planOf (now (pts .entry)) ⌝ }
 {
-    let zero = PolyBox { ox: 0, oy: 0, bw: 0, bh: 0 };
+    let zero = PolyBox {
+        ox: 0,
+        oy: 0,
+        bw: 0,
+        bh: 0,
+    };
     let none = Plan { g: zero, need: 0 };
     if pts.len() / 2 < 3 {
         return none;
