@@ -53,6 +53,10 @@ module _ (pts : List Float) where
   unfolding planOf polyReach noBox
   plan-reach = split (painted pts) (λ t. reachOf (cond t (planned (polyBox pts)) noPlan .g) ≡ cond t (reachOf (polyBox pts)) noBox) (λ e. refl) (λ e. refl)
 
+  pub plan-box : painted pts ≡ true → planOf pts .g ≡ polyBox pts
+  unfolding planOf
+  plan-box e = rw e
+
   pub plan-near : length pts ≤ 128 → coordsOk pts ≡ true → Near (planOf pts .g)
   unfolding planOf
   plan-near few coords =

@@ -29,20 +29,6 @@ pub box-room : (g : PolyBox) {n : ℕ} → Near g → n ≡ needOf g → Room (g
 box-room g r e = record { wide = r .wide; high = r .high; words = omega (arith, e) }
 
 module _ (pts : List Float) where
-  -- ---- by the box
-  pub few-need : pointCount pts < 3 → 0 ≡ polyNeed pts
-  unfolding polyNeed painted
-  few-need h = rw (lt-leb 3 (pointCount pts) h)
-
-  module _ (g : PolyBox) (e : g ≡ polyBox pts) (h : 3 ≤ pointCount pts) where
-    pub large-need : 4000000 < g .bw * g .bh → 0 ≡ polyNeed pts
-    unfolding polyNeed painted
-    large-need l = rw (le-leb 3 (pointCount pts) h, ← e, lt-leb (g .bw * g .bh) 4000000 l)
-
-    pub small-need : g .bw * g .bh ≤ 4000000 → needOf g ≡ polyNeed pts
-    unfolding polyNeed painted
-    small-need l = rw (le-leb 3 (pointCount pts) h, ← e, le-leb (g .bw * g .bh) 4000000 l)
-
   -- ---- the plan, by the box
   pub few-plan : pointCount pts < 3 → noPlan ≡ planOf pts
   unfolding planOf painted

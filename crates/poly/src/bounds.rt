@@ -10,7 +10,7 @@ ghost use lib.ListN.{length};
 ghost use Rattle.mathf.specs.Convert.{toI32};
 ghost use Rattle.mathf.specs.Whole.{floorOf, ceilOf};
 ghost use Rattle.gfx.specs.Points.{coordsOk};
-ghost use Rattle.poly.specs.Poly.{pointCount, pointAt, widened, extentOf, originOf, spanOf, polyBox, reachOf, polyNeed, planOf};
+ghost use Rattle.poly.specs.Poly.{pointCount, pointAt, widened, extentOf, originOf, spanOf, polyBox, reachOf, planOf};
 ghost use Rattle.poly.specs.Rooms.{Ranged, Near};
 
 // The least and the greatest coordinates.
@@ -108,23 +108,6 @@ pub(crate) fn reach_of(g: PolyBox) -> IRect
     let ox = g.ox;
     let oy = g.oy;
     IRect::new(ox, oy, ox + g.bw as i32, oy + g.bh as i32)
-}
-
-// The scratch words that a polygon needs: none where nothing is painted.
-pub(crate) fn need_of(pts: &[f32]) -> usize
-    requires { ⌜ (length (now pts) ≤ 128) × (coordsOk (now pts) ≡ true) ⌝ }
-    ensures { λ r. ⌜ r ≡ polyNeed (now (pts .entry)) ⌝ }
-{
-    if pts.len() / 2 < 3 {
-        return 0;
-    }
-    let g = poly_box(pts);
-    let bw = g.bw;
-    let bh = g.bh;
-    if bw * bh > 4000000 {
-        return 0;
-    }
-    (bw + 2) * bh + 2
 }
 
 // The box and the need of what is painted.

@@ -6,7 +6,6 @@ mod fill;
 mod outline;
 mod rows;
 
-use crate::bounds::need_of;
 use crate::bounds::plan_of;
 use crate::bounds::reach_of;
 use crate::fill::fill_lent;
@@ -51,17 +50,6 @@ pub fn poly_reach(pts: &[f32]) -> IRect
     reach_of(plan.g)
 }
 
-// The number that `fill_poly` is refused with, or 0: n pixels and so many scratch words are lent.
-fn poly_number(canvas: Canvas, n: usize, pts: &[f32], paint: Paint, words: usize) -> u32
-    ensures { λ r. ⌜ r ≡ polyNumber canvas n (now (pts .entry)) paint words ⌝ }
-{
-    let number = points_number(canvas, n, pts, paint.in_range());
-    if number != 0 {
-        return number;
-    }
-    if need_of(pts) <= words { 0 } else { 9 }
-}
-
 // Fills a polygon, whose points are coordinates x y x y, with a paint. The scratch words that it needs are left +0.
 pub fn fill_poly(
     canvas: Canvas,
@@ -72,12 +60,12 @@ pub fn fill_poly(
 ) -> Done
     ensures { λ r. ⌜ Filled (polyNumber canvas (length (now (px .entry))) (now (pts .entry)) paint (length (now (scratch .entry)))) canvas (now (px .entry)) (now (pts .entry)) paint (now (scratch .entry)) r (now (px .exit)) (now (scratch .exit)) ⌝ }
 {
-    let number = poly_number(canvas, px.len(), pts, paint, scratch.len());
+    let number = points_number(canvas, px.len(), pts, paint.in_range());
     if number != 0 {
         return Done { number, canvas };
     }
     let pitch = nat_of(canvas.w);
     let clip = canvas.clip;
-    fill_lent(px, scratch, pitch, clip, pts, paint);
+    let number = fill_lent(px, scratch, pitch, clip, pts, paint);
     Done { number, canvas }
 }
