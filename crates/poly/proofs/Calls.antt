@@ -1,28 +1,27 @@
 -- The call: what an accepted one says of its arguments, and what is left by whether it is refused. Assumes nothing.
 use mathlib.Core.Path.{_≡_, sym, subst, _∙_}
-use mathlib.Core.Bool.{true, cond}
+use mathlib.Core.Bool.{Bool, true, false, cond}
 use mathlib.Core.List.{List}
-use Prim.Native.Nat.{ℕ, _%_, _<_, _≤_}
+use Prim.Native.Nat.{ℕ, _%_, _≤_}
 use native.Mathlib.Omega.{arith}
 use lib.Dec.{leb, eqb}
 use lib.IntN.{ℤ, natAbs}
 use lib.ListN.{length}
 use lib.Ieee.{Float}
-use borrow.Author.Tests.{leb-true, le-leb, lt-leb, eqb-true, eq-eqb, ne-eqb}
+use borrow.Author.Tests.{leb-true, eq-eqb, ne-eqb}
 use mir.Syntax.{w32}
 use mir.Val.{toZ, ofZ}
 use Rattle.geom.specs.Int.{up}
-use Rattle.geom.proofs.Bools.{and-right, split}
+use Rattle.geom.proofs.Bools.{and-right}
 use Rattle.draw.specs.Draw.{drawn}
 use Rattle.gfx.specs.Calls.{unless}
 use Rattle.gfx.specs.Points.{pointsOk, pointsNumber}
 use Rattle.gfx.specs.Paints.{paintOk}
 use Rattle.gfx.specs.declared.Canvas.{Canvas}
 use Rattle.gfx.specs.declared.paints.Paint.{Paint}
-use Rattle.gfx.proofs.Answers.{passed, refused-call, accepted-call}
+use Rattle.gfx.proofs.Answers.{refused-call, accepted-call}
 use Rattle.gfx.proofs.Sizes.{Open}
 use Rattle.gfx.proofs.Valid.{side-of, valid-of}
-use Rattle.gfx.proofs.Coords.{OpenPoints, points-open}
 use Rattle.poly.proofs.Signs.{back}
 use Rattle.poly.specs.Poly.{polyReach, polyNeed, polyInk, cleared, polyNumber, Filled}
 
@@ -48,26 +47,6 @@ module _ (c : Canvas) (n : ℕ) (pts : List Float) (paint : Paint) (words : ℕ)
   unfolding polyNumber
   passed-number e = rw e
 
-  pub number-enough : pointsNumber c n pts (paintOk paint) ≡ 0 → polyNeed pts ≤ words → 0 ≡ polyNumber c n pts paint words
-  number-enough e h = rw (le-leb (polyNeed pts) words h) at (passed-number e)
-
-  pub number-short : pointsNumber c n pts (paintOk paint) ≡ 0 → words < polyNeed pts → 9 ≡ polyNumber c n pts paint words
-  number-short e h = rw (lt-leb (polyNeed pts) words h) at (passed-number e)
-
-  -- ---- a call that is not refused
-
-  pub record OpenPoly : Type 0 where
-    pub points : OpenPoints c n pts (paintOk paint)
-    pub enough : polyNeed pts ≤ words
-
-  pub poly-open : polyNumber c n pts paint words ≡ 0 → OpenPoly
-  unfolding polyNumber
-  poly-open e =
-      let k = pointsNumber c n pts (paintOk paint) in
-      let z : k ≡ 0 = split (eqb k 0) (λ t. cond t (unless (leb (polyNeed pts) words) 9 0) k ≡ 0 → k ≡ 0) (λ t h. eqb-true k 0 t) (λ t h. h) e in
-      let r : unless (leb (polyNeed pts) words) 9 0 ≡ 0 = passed-number z ∙ e in
-      record { points = points-open c n pts (paintOk paint) z; enough = leb-true (polyNeed pts) words (passed (leb (polyNeed pts) words) 8 0 r .0) }
-
 -- ---- what is left
 
 module _ {n m : ℕ} (e : m ≡ n) {c : Canvas} {px : List ℕ} {pts : List Float} {paint : Paint} {scratch : List Float} where
@@ -77,3 +56,20 @@ module _ {n m : ℕ} (e : m ≡ n) {c : Canvas} {px : List ℕ} {pts : List Floa
   pub accepted-fill : m ≡ 0 → {px′ : List ℕ} {scratch′ : List Float} → px′ ≡ drawn (up (c .w)) (c .clip) (polyReach pts) (polyInk pts paint) px → scratch′ ≡ cleared (polyNeed pts) scratch
       → Filled n c px pts paint scratch (record { number = m; canvas = c }) px′ scratch′
   accepted-fill z p s = rw (p, s) (record { called = accepted-call e z; clears = rw (← e, eq-eqb m 0 z) })
+
+-- the call after the first four tests: the words tell
+pub lent-fill : (c : Canvas) (px : List ℕ) (pts : List Float) (paint : Paint) (scratch : List Float) {m : ℕ} {px′ : List ℕ} {scratch′ : List Float} → pointsNumber c (length px) pts (paintOk paint) ≡ 0
+    → m ≡ unless (leb (polyNeed pts) (length scratch)) 9 0
+    → px′ ≡ cond (leb (polyNeed pts) (length scratch)) (drawn (up (c .w)) (c .clip) (polyReach pts) (polyInk pts paint) px) px
+    → scratch′ ≡ cond (leb (polyNeed pts) (length scratch)) (cleared (polyNeed pts) scratch) scratch
+    → Filled (polyNumber c (length px) pts paint (length scratch)) c px pts paint scratch (record { number = m; canvas = c }) px′ scratch′
+lent-fill c px pts paint scratch {m} {px′} {scratch′} z = go (leb (polyNeed pts) (length scratch)) (passed-number c (length px) pts paint (length scratch) z)
+  where
+    nine : (k : ℕ) → k ≡ 9 → k ≡ 0 → ⊥
+    nine k e h = omega arith
+    go : (t : Bool) → unless t 9 0 ≡ polyNumber c (length px) pts paint (length scratch) → m ≡ unless t 9 0
+        → px′ ≡ cond t (drawn (up (c .w)) (c .clip) (polyReach pts) (polyInk pts paint) px) px
+        → scratch′ ≡ cond t (cleared (polyNeed pts) scratch) scratch
+        → Filled (polyNumber c (length px) pts paint (length scratch)) c px pts paint scratch (record { number = m; canvas = c }) px′ scratch′
+    go true q e p s = accepted-fill (e ∙ q) e p s
+    go false q e p s = rw (p, s) (refused-fill (e ∙ q) (nine m e))

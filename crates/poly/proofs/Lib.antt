@@ -8,3 +8,4 @@ pub mod Needs
 pub mod Spans
 pub mod Sides
 pub mod Calls
+pub mod Accepts

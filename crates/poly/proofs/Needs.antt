@@ -14,7 +14,7 @@ use Rattle.geom.proofs.Bools.{and-left, split}
 use Rattle.geom.proofs.Boxes.{meet-empty}
 use Rattle.draw.specs.Areas.{area, clipTo, drawnIn}
 use Rattle.draw.proofs.Rows.{none-across}
-use Rattle.poly.specs.Poly.{pointCount, polyBox, painted, reachOf, polyReach, needOf, polyNeed, cleared}
+use Rattle.poly.specs.Poly.{pointCount, polyBox, painted, reachOf, polyReach, needOf, polyNeed, noPlan, planned, planOf, cleared}
 use Rattle.poly.specs.Rooms.{Room, Near}
 use Rattle.poly.specs.declared.bounds.PolyBox.{PolyBox}
 
@@ -29,19 +29,19 @@ pub box-room : (g : PolyBox) {n : ℕ} → Near g → n ≡ needOf g → Room (g
 box-room g r e = record { wide = r .wide; high = r .high; words = omega (arith, e) }
 
 module _ (pts : List Float) where
-  -- ---- by the box
-  pub few-need : pointCount pts < 3 → 0 ≡ polyNeed pts
-  unfolding polyNeed painted
-  few-need h = rw (lt-leb 3 (pointCount pts) h)
+  -- ---- the plan, by the box
+  pub few-plan : pointCount pts < 3 → noPlan ≡ planOf pts
+  unfolding planOf painted
+  few-plan h = rw (lt-leb 3 (pointCount pts) h)
 
   module _ (g : PolyBox) (e : g ≡ polyBox pts) (h : 3 ≤ pointCount pts) where
-    pub large-need : 4000000 < g .bw * g .bh → 0 ≡ polyNeed pts
-    unfolding polyNeed painted
-    large-need l = rw (le-leb 3 (pointCount pts) h, ← e, lt-leb (g .bw * g .bh) 4000000 l)
+    pub large-plan : 4000000 < g .bw * g .bh → noPlan ≡ planOf pts
+    unfolding planOf painted
+    large-plan l = rw (le-leb 3 (pointCount pts) h, ← e, lt-leb (g .bw * g .bh) 4000000 l)
 
-    pub small-need : g .bw * g .bh ≤ 4000000 → needOf g ≡ polyNeed pts
-    unfolding polyNeed painted
-    small-need l = rw (le-leb 3 (pointCount pts) h, ← e, le-leb (g .bw * g .bh) 4000000 l)
+    pub small-plan : g .bw * g .bh ≤ 4000000 → planned g ≡ planOf pts
+    unfolding planOf painted
+    small-plan l = rw (le-leb 3 (pointCount pts) h, ← e, le-leb (g .bw * g .bh) 4000000 l)
 
   -- ---- by the need: a polygon that is painted needs two words and more
   pub some-painted : (polyNeed pts ≡ 0 → ⊥) → painted pts ≡ true

@@ -20,7 +20,7 @@ use Rattle.geom.specs.declared.IRect.{IRect}
 use Rattle.color.specs.Inks.{overC}
 use Rattle.draw.specs.Draw.{drawn}
 use Rattle.gfx.specs.Calls.{unless, Called}
-use Rattle.gfx.specs.Points.{pointsNumber}
+use Rattle.gfx.specs.Points.{pointsOk, coordsOk, pointsNumber}
 use Rattle.gfx.specs.Paints.{paintAt, paintOk, centreOf}
 use Rattle.gfx.specs.declared.Canvas.{Canvas}
 use Rattle.gfx.specs.declared.Done.{Done}
@@ -28,6 +28,7 @@ use Rattle.gfx.specs.declared.paints.Paint.{Paint}
 use Rattle.poly.specs.Lines.{lineAccum}
 use Rattle.poly.specs.declared.bounds.Extent.{Extent}
 use Rattle.poly.specs.declared.bounds.PolyBox.{PolyBox}
+use Rattle.poly.specs.declared.bounds.Plan.{Plan}
 
 -- ---- points
 
@@ -84,6 +85,31 @@ needOf g = (g .bw + 2) * g .bh + 2
 
 unfoldable pub polyNeed : List Float → ℕ
 polyNeed pts = cond (painted pts) (needOf (polyBox pts)) 0
+
+-- ---- reach and need of any points
+
+-- what the calls accept of points: the tests of 13 and 6
+unfoldable pub polyOk : List Float → Bool
+polyOk pts = pointsOk pts && coordsOk pts
+
+unfoldable pub needIn : List Float → ℕ
+needIn pts = cond (polyOk pts) (polyNeed pts) 0
+
+unfoldable pub reachIn : List Float → IRect
+reachIn pts = cond (polyOk pts) (polyReach pts) noBox
+
+-- ---- the box and the need together
+
+abbrev pub planned : PolyBox → Plan
+planned g = record { g = g; need = needOf g }
+
+abbrev pub noPlan : Plan
+noPlan = record { g = record { ox = pos 0; oy = pos 0; bw = 0; bh = 0 }; need = 0 }
+
+unfoldable pub planOf : List Float → Plan
+planOf pts = cond (painted pts) (planned (polyBox pts)) noPlan
+
+-- ---- the words of the accumulator
 
 -- point i from the box's corner
 unfoldable pub pointFrom : List Float → PolyBox → ℕ → Pt

@@ -10,7 +10,7 @@ ghost use lib.ListN.{length};
 ghost use Rattle.mathf.specs.Convert.{toI32};
 ghost use Rattle.mathf.specs.Whole.{floorOf, ceilOf};
 ghost use Rattle.gfx.specs.Points.{coordsOk};
-ghost use Rattle.poly.specs.Poly.{pointCount, pointAt, widened, extentOf, originOf, spanOf, polyBox, reachOf, polyNeed};
+ghost use Rattle.poly.specs.Poly.{pointCount, pointAt, widened, extentOf, originOf, spanOf, polyBox, reachOf, planOf};
 ghost use Rattle.poly.specs.Rooms.{Ranged, Near};
 
 // The least and the greatest coordinates.
@@ -27,6 +27,12 @@ pub struct PolyBox {
     pub oy: i32,
     pub bw: usize,
     pub bh: usize,
+}
+
+// What is painted: its box, and the scratch words that it needs. All zeros where nothing is painted.
+pub struct Plan {
+    pub g: PolyBox,
+    pub need: usize,
 }
 
 pub(crate) fn point_at(pts: &[f32], i: usize) -> Pt
@@ -104,19 +110,27 @@ pub(crate) fn reach_of(g: PolyBox) -> IRect
     IRect::new(ox, oy, ox + g.bw as i32, oy + g.bh as i32)
 }
 
-// The scratch words that a polygon needs: none where nothing is painted.
-pub(crate) fn need_of(pts: &[f32]) -> usize
+// The box and the need of what is painted.
+pub(crate) fn plan_of(pts: &[f32]) -> Plan
     requires { ⌜ (length (now pts) ≤ 128) × (coordsOk (now pts) ≡ true) ⌝ }
-    ensures { λ r. ⌜ r ≡ polyNeed (now (pts .entry)) ⌝ }
+    ensures { λ r. ⌜ r ≡ planOf (now (pts .entry)) ⌝ }
 {
+    let zero = PolyBox {
+        ox: 0,
+        oy: 0,
+        bw: 0,
+        bh: 0,
+    };
+    let none = Plan { g: zero, need: 0 };
     if pts.len() / 2 < 3 {
-        return 0;
+        return none;
     }
     let g = poly_box(pts);
     let bw = g.bw;
     let bh = g.bh;
     if bw * bh > 4000000 {
-        return 0;
+        return none;
     }
-    (bw + 2) * bh + 2
+    let need = (bw + 2) * bh + 2;
+    Plan { g, need }
 }

@@ -1,35 +1,45 @@
 // A polygon in the pixels, by a lent scratch.
-use crate::bounds::need_of;
-use crate::bounds::poly_box;
+use crate::bounds::PolyBox;
+use crate::bounds::plan_of;
 use crate::outline::accumulate;
 use crate::outline::clear;
 use crate::rows::draw_box;
 use geom::IRect;
 use gfx::Paint;
 ghost use mathlib.Core.Path.{_≡_};
-ghost use mathlib.Core.Bool.{true};
+ghost use mathlib.Core.Bool.{true, cond};
 ghost use Prim.Native.Nat.{_≤_};
+ghost use lib.Dec.{leb};
 ghost use lib.ListN.{length, replicate};
 ghost use Rattle.mathf.specs.F32.{f0};
 ghost use Rattle.draw.specs.Areas.{drawnIn, clipTo, AreaFits};
+ghost use Rattle.gfx.specs.Calls.{unless};
 ghost use Rattle.gfx.specs.Points.{coordsOk};
-ghost use Rattle.poly.specs.Poly.{polyBox, reachOf, needOf, polyReach, polyNeed, polyInk, cleared};
-ghost use Rattle.poly.specs.Rooms.{Ranged};
+ghost use Rattle.poly.specs.Poly.{reachOf, needOf, polyReach, polyNeed, accumulated, inkIn, polyInk, cleared};
+ghost use Rattle.poly.specs.Rooms.{Near};
 
-// The polygon under a clip. The accumulator is exactly as long as it needs to be, and is left +0.
-fn fill_part(px: &mut [u32], acc: &mut [f32], pitch: usize, clip: IRect, pts: &[f32], paint: Paint)
-    requires { ⌜ AreaFits pitch (clipTo (reachOf (polyBox (now pts))) clip) (length (now px)) ⌝ }
-    requires { ⌜ Ranged (now pts) × (length (now acc) ≡ needOf (polyBox (now pts))) ⌝ }
-    ensures { λ _. ⌜ now (px .exit) ≡ drawnIn pitch (clipTo (reachOf (polyBox (now (pts .entry)))) clip) (polyInk (now (pts .entry)) paint) (now (px .entry)) ⌝ }
-    ensures { λ _. ⌜ now (acc .exit) ≡ replicate (needOf (polyBox (now (pts .entry)))) f0 ⌝ }
+// The polygon under a clip, by its box. The accumulator is exactly as long as it needs to be, and is left +0.
+fn fill_part(
+    px: &mut [u32],
+    acc: &mut [f32],
+    pitch: usize,
+    clip: IRect,
+    pts: &[f32],
+    g: PolyBox,
+    paint: Paint,
+)
+    requires { ⌜ AreaFits pitch (clipTo (reachOf g) clip) (length (now px)) ⌝ }
+    requires { ⌜ Near g × (length (now acc) ≡ needOf g) × (length (now pts) ≤ 128) ⌝ }
+    ensures { λ _. ⌜ now (px .exit) ≡ drawnIn pitch (clipTo (reachOf g) clip) (inkIn (accumulated (now (pts .entry)) g) g paint) (now (px .entry)) ⌝ }
+    ensures { λ _. ⌜ now (acc .exit) ≡ replicate (needOf g) f0 ⌝ }
 {
-    let g = poly_box(pts);
     accumulate(acc, pts, g);
     draw_box(px, acc, pitch, clip, g, paint);
     clear(acc);
 }
 
-// The same by a scratch that has words enough: later ones stay as they came. Where nothing is painted, none is touched.
+// The same by any scratch: 9 where it has too few words, and then nothing is touched; else 0, and later words stay as they came. Where
+// nothing is painted, none is touched.
 pub(crate) fn fill_lent(
     px: &mut [u32],
     scratch: &mut [f32],
@@ -37,15 +47,21 @@ pub(crate) fn fill_lent(
     clip: IRect,
     pts: &[f32],
     paint: Paint,
-)
+) -> u32
     requires { ⌜ AreaFits pitch (clipTo (polyReach (now pts)) clip) (length (now px)) ⌝ }
-    requires { ⌜ (length (now pts) ≤ 128) × (coordsOk (now pts) ≡ true) × (polyNeed (now pts) ≤ length (now scratch)) ⌝ }
-    ensures { λ _. ⌜ now (px .exit) ≡ drawnIn pitch (clipTo (polyReach (now (pts .entry))) clip) (polyInk (now (pts .entry)) paint) (now (px .entry)) ⌝ }
-    ensures { λ _. ⌜ now (scratch .exit) ≡ cleared (polyNeed (now (pts .entry))) (now (scratch .entry)) ⌝ }
+    requires { ⌜ (length (now pts) ≤ 128) × (coordsOk (now pts) ≡ true) ⌝ }
+    ensures { λ r. ⌜ r ≡ unless (leb (polyNeed (now (pts .entry))) (length (now (scratch .entry)))) 9 0 ⌝ }
+    ensures { λ _. ⌜ now (px .exit) ≡ cond (leb (polyNeed (now (pts .entry))) (length (now (scratch .entry)))) (drawnIn pitch (clipTo (polyReach (now (pts .entry))) clip) (polyInk (now (pts .entry)) paint) (now (px .entry))) (now (px .entry)) ⌝ }
+    ensures { λ _. ⌜ now (scratch .exit) ≡ cond (leb (polyNeed (now (pts .entry))) (length (now (scratch .entry)))) (cleared (polyNeed (now (pts .entry))) (now (scratch .entry))) (now (scratch .entry)) ⌝ }
 {
-    let n = need_of(pts);
-    if n == 0 {
-        return;
+    let plan = plan_of(pts);
+    let n = plan.need;
+    if scratch.len() < n {
+        return 9;
     }
-    fill_part(px, &mut scratch[..n], pitch, clip, pts, paint);
+    if n == 0 {
+        return 0;
+    }
+    fill_part(px, &mut scratch[..n], pitch, clip, pts, plan.g, paint);
+    0
 }

@@ -6,26 +6,48 @@ mod fill;
 mod outline;
 mod rows;
 
-use crate::bounds::need_of;
+use crate::bounds::plan_of;
+use crate::bounds::reach_of;
 use crate::fill::fill_lent;
+use geom::IRect;
 use geom::nat_of;
 use gfx::Canvas;
 use gfx::Done;
 use gfx::Paint;
+use gfx::coords_ok;
 use gfx::points_number;
 ghost use mathlib.Core.Path.{_≡_};
 ghost use lib.ListN.{length};
-ghost use Rattle.poly.specs.Poly.{polyNumber, Filled};
+ghost use Rattle.poly.specs.Poly.{polyOk, needIn, reachIn, polyNumber, Filled};
 
-// The number that `fill_poly` is refused with, or 0: n pixels and so many scratch words are lent.
-fn poly_number(canvas: Canvas, n: usize, pts: &[f32], paint: Paint, words: usize) -> u32
-    ensures { λ r. ⌜ r ≡ polyNumber canvas n (now (pts .entry)) paint words ⌝ }
+// Whether the calls accept such points: an even count of coordinates, of at most 64 points, each within 8,192 of 0.
+fn poly_ok(pts: &[f32]) -> bool
+    ensures { λ r. ⌜ r ≡ polyOk (now (pts .entry)) ⌝ }
 {
-    let number = points_number(canvas, n, pts, paint.in_range());
-    if number != 0 {
-        return number;
+    let n = pts.len();
+    (n % 2 == 0) & (n <= 128) & coords_ok(pts)
+}
+
+// The scratch words that a polygon needs: none for points that are not accepted.
+pub fn poly_need(pts: &[f32]) -> usize
+    ensures { λ r. ⌜ r ≡ needIn (now (pts .entry)) ⌝ }
+{
+    if !poly_ok(pts) {
+        return 0;
     }
-    if need_of(pts) <= words { 0 } else { 9 }
+    let plan = plan_of(pts);
+    plan.need
+}
+
+// The pixels around a polygon: four zeros for points that are not accepted, or where nothing is painted.
+pub fn poly_reach(pts: &[f32]) -> IRect
+    ensures { λ r. ⌜ r ≡ reachIn (now (pts .entry)) ⌝ }
+{
+    if !poly_ok(pts) {
+        return IRect::new(0, 0, 0, 0);
+    }
+    let plan = plan_of(pts);
+    reach_of(plan.g)
 }
 
 // Fills a polygon, whose points are coordinates x y x y, with a paint. The scratch words that it needs are left +0.
@@ -38,12 +60,12 @@ pub fn fill_poly(
 ) -> Done
     ensures { λ r. ⌜ Filled (polyNumber canvas (length (now (px .entry))) (now (pts .entry)) paint (length (now (scratch .entry)))) canvas (now (px .entry)) (now (pts .entry)) paint (now (scratch .entry)) r (now (px .exit)) (now (scratch .exit)) ⌝ }
 {
-    let number = poly_number(canvas, px.len(), pts, paint, scratch.len());
+    let number = points_number(canvas, px.len(), pts, paint.in_range());
     if number != 0 {
         return Done { number, canvas };
     }
     let pitch = nat_of(canvas.w);
     let clip = canvas.clip;
-    fill_lent(px, scratch, pitch, clip, pts, paint);
+    let number = fill_lent(px, scratch, pitch, clip, pts, paint);
     Done { number, canvas }
 }

@@ -4,29 +4,43 @@ use lib.ListN.{length}
 use Rattle.geom.specs.Int.{up}
 use Rattle.draw.specs.Areas.{clipTo, AreaFits}
 use Rattle.draw.proofs.Clips.{drawn-clip}
+use Rattle.gfx.specs.Paints.{paintOk}
+use Rattle.gfx.specs.Points.{pointsNumber}
+use Rattle.gfx.proofs.Coords.{OpenPoints, points-open}
 use Rattle.gfx.proofs.Fits.{canvas-fits}
 use Rattle.poly.specs.Poly.{polyReach, polyInk}
-use Rattle.poly.proofs.Calls.{OpenPoly, poly-open, count-of, width-back, refused-fill, accepted-fill}
+use Rattle.poly.proofs.Calls.{count-of, width-back, number-refused, refused-fill, lent-fill}
 use borrow.Author.Needs.{needs}
 use Rattle.poly.proofs.fill_poly.Statement.{statement}
 use Rattle.poly.proofs.fill_poly.Tie as tie
 
-accepted : (c : tie.Else1) → OpenPoly (c .before .before .before .before .before .args .canvas) (length (c .before .before .before .before .before .args .px .now)) (c .before .before .before .before .before .args .pts .now) (c .before .before .before .before .before .args .paint) (length (c .before .before .before .before .before .args .scratch .now))
+number-is : (d : tie.After-points-number) → d .points-number .result ≡ pointsNumber (d .before .before .before .before .before .args .canvas) (length (d .before .before .before .before .before .args .px .now)) (d .before .before .before .before .before .args .pts .now) (paintOk (d .before .before .before .before .before .args .paint))
+number-is d = d .points-number .ensures ∙ rw (d .before .in-range .ensures)
+
+passed : (c : tie.Else1) → pointsNumber (c .before .before .before .before .before .before .args .canvas) (length (c .before .before .before .before .before .before .args .px .now)) (c .before .before .before .before .before .before .args .pts .now) (paintOk (c .before .before .before .before .before .before .args .paint)) ≡ 0
+passed c = sym (number-is (c .before)) ∙ c .if1 .left
+
+accepted : (c : tie.Else1) → OpenPoints (c .before .before .before .before .before .before .args .canvas) (length (c .before .before .before .before .before .before .args .px .now)) (c .before .before .before .before .before .before .args .pts .now) (paintOk (c .before .before .before .before .before .before .args .paint))
 accepted c =
-    let at = c .before .before .before .before .before .args in
-    poly-open (at .canvas) (length (at .px .now)) (at .pts .now) (at .paint) (length (at .scratch .now)) (sym (c .before .poly-number .ensures) ∙ c .if1 .left)
+    let at = c .before .before .before .before .before .before .args in
+    points-open (at .canvas) (length (at .px .now)) (at .pts .now) (paintOk (at .paint)) (passed c)
 
 -- a row of pixels is as long as the canvas is wide
-pitch-is : (w : tie.After-nat-of) → w .nat-of .result ≡ up (w .before .before .before .before .before .before .before .args .canvas .w)
+pitch-is : (w : tie.After-nat-of) → w .nat-of .result ≡ up (w .before .before .before .before .before .before .before .before .args .canvas .w)
 pitch-is w =
-    let at = w .before .before .before .before .before .before .before .args in
-    w .nat-of .ensures ∙ rw (width-back (at .canvas) (length (at .px .now)) (accepted (w .before .before) .points .canvas))
+    let at = w .before .before .before .before .before .before .before .before .args in
+    w .nat-of .ensures ∙ rw (width-back (at .canvas) (length (at .px .now)) (accepted (w .before .before) .canvas))
 
-poly-number-requires : tie.Need-poly-number-requires
-poly-number-requires c κs = search needs
+in-range-requires : tie.Need-in-range-requires
+in-range-requires c κs = search needs
+
+points-number-requires : tie.Need-points-number-requires
+points-number-requires c κs = search needs
 
 returns : tie.Need-returns
-returns c = refused-fill (c .before .poly-number .ensures) (c .if1 .taken)
+returns c =
+    let at = c .before .before .before .before .before .before .args in
+    refused-fill (number-refused (at .canvas) (length (at .px .now)) (at .pts .now) (at .paint) (length (at .scratch .now)) (number-is (c .before)) (c .if1 .taken)) (c .if1 .taken)
 
 nat-of-requires : tie.Need-nat-of-requires
 nat-of-requires c κs = search needs
@@ -35,11 +49,11 @@ fill-lent-requires : tie.Need-fill-lent-requires
 fill-lent-requires c κs =
     let w = c .before .before .before in
     let t = w .before .before in
-    let at = t .before .before .before .before .before .args in
+    let at = t .before .before .before .before .before .before .args in
     let o = accepted t in
     let fits : AreaFits (w .nat-of .result) (clipTo (polyReach (at .pts .now)) (at .canvas .clip)) (length (at .px .now)) =
-    rw (pitch-is w) (canvas-fits (at .canvas) (length (at .px .now)) (polyReach (at .pts .now)) (o .points .canvas)) in
-    (fits, (count-of (at .pts .now) (o .points .points), o .points .coords, o .enough))
+    rw (pitch-is w) (canvas-fits (at .canvas) (length (at .px .now)) (polyReach (at .pts .now)) (o .canvas)) in
+    (fits, (count-of (at .pts .now) (o .points), o .coords))
 
 same-length : tie.Need-same-length
 same-length c = search needs
@@ -52,16 +66,18 @@ returns-2 c =
     let f = c .before .before .before .before in
     let w = f .before .before .before .before in
     let t = w .before .before in
-    let at = t .before .before .before .before .before .args in
-    accepted-fill (t .before .poly-number .ensures) (t .if1 .left)
-    (f .fill-lent .ensures .0 ∙ rw (pitch-is w) (sym (drawn-clip (up (at .canvas .w)) (at .canvas .clip) (polyReach (at .pts .now)) (polyInk (at .pts .now) (at .paint)) (at .px .now))))
-    (f .fill-lent .ensures .1)
+    let at = t .before .before .before .before .before .before .args in
+    lent-fill (at .canvas) (at .px .now) (at .pts .now) (at .paint) (at .scratch .now) (passed t)
+    (f .fill-lent .ensures .0)
+    (f .fill-lent .ensures .1 .0 ∙ rw (pitch-is w, drawn-clip (up (at .canvas .w)) (at .canvas .clip) (polyReach (at .pts .now)) (polyInk (at .pts .now) (at .paint)) (at .px .now)))
+    (f .fill-lent .ensures .1 .1)
 
 pub fill-poly-spec : {M : Type 1} → statement M
 fill-poly-spec =
     tie.close
     (tie.spec
-    poly-number-requires
+    in-range-requires
+    points-number-requires
     returns
     nat-of-requires
     fill-lent-requires

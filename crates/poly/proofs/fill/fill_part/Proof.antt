@@ -1,40 +1,21 @@
 -- `poly::fill::fill_part` meets its contract. Assumes nothing.
-use mathlib.Core.Path.{_≡_, ap, _∙_}
+use mathlib.Core.Path.{ap, _∙_}
 use Prim.Native.Nat.{ℕ}
-use lib.ListN.{length, replicate}
+use lib.ListN.{replicate}
 use Rattle.mathf.specs.F32.{f0}
-use Rattle.draw.specs.Areas.{clipTo, AreaFits}
-use Rattle.poly.specs.Poly.{reachOf, needOf}
-use Rattle.poly.specs.Rooms.{Near}
-use Rattle.poly.proofs.Boxed.{box-near}
 use Rattle.poly.proofs.Needs.{box-room}
 use borrow.Author.Needs.{needs}
 use Rattle.poly.proofs.fill.fill_part.Statement.{statement}
 use Rattle.poly.proofs.fill.fill_part.Tie as tie
 
-near : (p : tie.After-poly-box) → Near (p .poly-box .result)
-near p =
-    let s = p .before .before .before .before in
-    rw (p .poly-box .ensures) (box-near (s .args .pts .now) (s .pre .1 .0))
-
-long : (p : tie.After-poly-box) → length (p .before .before .before .before .args .acc .now) ≡ needOf (p .poly-box .result)
-long p = rw (p .poly-box .ensures) (p .before .before .before .before .pre .1 .1)
-
-poly-box-requires : tie.Need-poly-box-requires
-poly-box-requires c κs = search needs
-
 accumulate-requires : tie.Need-accumulate-requires
-accumulate-requires c κs =
-    let p = c .before in
-    (near p, long p, p .before .before .before .before .pre .1 .0 .few)
+accumulate-requires c κs = c .before .before .before .before .pre .1
 
 draw-box-requires : tie.Need-draw-box-requires
 draw-box-requires c κs =
     let a = c .before .before .before .before in
-    let p = a .before .before in
-    let s = p .before .before .before .before in
-    let fits : AreaFits (s .args .pitch) (clipTo (reachOf (p .poly-box .result)) (s .args .clip)) (length (s .args .px .now)) = rw (p .poly-box .ensures) (s .pre .0) in
-    (fits, (box-room (p .poly-box .result) (near p) (a .accumulate .kept .0 ∙ long p), near p))
+    let s = a .before .before .before .before .before in
+    (s .pre .0, (box-room (s .args .g) (s .pre .1 .0) (a .accumulate .kept .0 ∙ s .pre .1 .1), s .pre .1 .0))
 
 clear-requires : tie.Need-clear-requires
 clear-requires c κs = search needs
@@ -50,14 +31,13 @@ returns c =
     let z = c .before .before in
     let d = z .before .before .before .before in
     let a = d .before .before .before .before .before in
-    let p = a .before .before in
-    (d .draw-box .ensures ∙ rw (a .accumulate .ensures, p .poly-box .ensures), z .clear .ensures ∙ ap (λ (n : ℕ). replicate n f0) (a .accumulate .kept .0 ∙ p .before .before .before .before .pre .1 .1))
+    let s = a .before .before .before .before .before in
+    (d .draw-box .ensures ∙ rw (a .accumulate .ensures), z .clear .ensures ∙ ap (λ (n : ℕ). replicate n f0) (a .accumulate .kept .0 ∙ s .pre .1 .1))
 
 pub fill-part-spec : {M : Type 1} → statement M
 fill-part-spec =
     tie.close
     (tie.spec
-    poly-box-requires
     accumulate-requires
     draw-box-requires
     clear-requires
