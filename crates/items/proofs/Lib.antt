@@ -1,3 +1,4 @@
 -- The laws of items that belong to no one function. Assumes nothing.
+pub mod Parts
 pub mod Sound
 pub mod PolyPoints

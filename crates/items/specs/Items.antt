@@ -1,10 +1,11 @@
 -- The items of a sheet as values (document 01, "The sheet"). An item is read from its own bytes, of which p is a place. Reading is total:
 -- past the end a byte is 0, and a kind that no accepted sheet has is an item that draws nothing. Assumes nothing.
-use Prim.Native.Nat.{ℕ, zero, suc, _+_, _*_}
+use Prim.Native.Nat.{ℕ, zero, suc, _+_, _-_, _*_, _≤_}
 use mathlib.Core.Bool.{Bool, cond, _&&_}
 use mathlib.Core.List.{List, [], _∷_}
 use lib.Dec.{ltb, leb, eqb}
-use lib.ListN.{length}
+use mathlib.Core.Path.{_≡_}
+use lib.ListN.{length, take, drop}
 use lib.Ieee.{Float}
 use Rattle.geom.specs.declared.Pt.{Pt}
 use Rattle.geom.specs.declared.Rect.{Rect}
@@ -81,11 +82,14 @@ abbrev pub itemOf : List ℕ → Item
 itemOf b = readItem b 0
 
 -- the item k, counted from 0, of a sheet that has it
-unfoldable pub hasItem : List ℕ → ℕ → Bool
-hasItem s k = ltb k (countOf s) && leb (offsetOf s k + lengthOf s k) (length s)
-
 unfoldable pub itemAt : List ℕ → ℕ → Item
-itemAt s k = cond (hasItem s k) (itemOf (bytesAt s k)) Unknown
+itemAt s k = cond (ltb k (countOf s)) (itemOf (bytesAt s k)) Unknown
+
+-- the bytes from one place to another are those of the item k
+pub record Lies (s : List ℕ) (k from to : ℕ) : Type 0 where
+  pub order : from ≤ to
+  pub inside : to ≤ length s
+  pub bytes : take (to - from) (drop from s) ≡ bytesAt s k
 
 -- n coordinates from p on, x y x y
 unfoldable pub coordsFrom : List ℕ → ℕ → ℕ → List Float

@@ -7,8 +7,8 @@ use sheet::byte_at;
 use sheet::f32_at;
 use sheet::u16_at;
 ghost use mathlib.Core.Path.{_≡_};
-ghost use Prim.Native.Nat.{_<_};
-ghost use Rattle.items.specs.Items.{readColor, readPt, readRect, readPaint, readFill, readStroke, readLine, readPoly, readShadow, readItem, itemOf, itemAt, coordsFrom, groundOf};
+ghost use Prim.Native.Nat.{_<_, min};
+ghost use Rattle.items.specs.Items.{readColor, readPt, readRect, readPaint, readFill, readStroke, readLine, readPoly, readShadow, readItem, itemOf, itemAt, Lies, coordsFrom, groundOf};
 
 pub mod reader;
 
@@ -203,6 +203,29 @@ fn read_item(s: &[u8], p: usize) -> Item
     }
 }
 
+fn least(a: usize, b: usize) -> usize
+    ensures { λ r. ⌜ r ≡ min a b ⌝ }
+{
+    if a < b { a } else { b }
+}
+
+// Where the bytes of an item lie.
+pub struct Part {
+    pub from: usize,
+    pub to: usize,
+}
+
+// Where the bytes of the item k lie; no byte past the sheet's end is one of them.
+pub fn part_at(s: &[u8], k: u16) -> Part
+    ensures { λ r. ⌜ Lies (now (s .entry)) k (r .from) (r .to) ⌝ }
+{
+    let at = u16_at(s, 12 + 4 * k as usize);
+    let len = u16_at(s, 14 + 4 * k as usize);
+    let from = least(at, s.len());
+    let to = least(at + len, s.len());
+    Part { from, to }
+}
+
 // The item that some bytes are.
 pub fn item_of(b: &[u8]) -> Item
     ensures { λ r. ⌜ r ≡ itemOf (now (b .entry)) ⌝ }
@@ -217,10 +240,8 @@ pub fn item_at(s: &[u8], k: usize) -> Item
     if k >= u16_at(s, 8) {
         return Item::Unknown;
     }
-    let from = u16_at(s, 12 + 4 * k);
-    let to = from + u16_at(s, 14 + 4 * k);
-    if to > s.len() {
-        return Item::Unknown;
-    }
+    let p = part_at(s, k as u16);
+    let from = p.from;
+    let to = p.to;
     item_of(&s[from..to])
 }
