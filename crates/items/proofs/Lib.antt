@@ -2,3 +2,5 @@
 pub mod Parts
 pub mod Sound
 pub mod PolyPoints
+pub mod Shapeless
+pub mod Lawful

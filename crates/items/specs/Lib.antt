@@ -1,2 +1,3 @@
 -- The definitions that items' contracts cite. Assumes nothing.
 pub mod Items
+pub mod Format

@@ -10,6 +10,7 @@ ghost use mathlib.Core.Path.{_≡_};
 ghost use Prim.Native.Nat.{_<_, min};
 ghost use Rattle.items.specs.Items.{readColor, readPt, readRect, readPaint, readFill, readStroke, readLine, readPoly, readShadow, readItem, itemOf, itemAt, Lies, coordsFrom, groundOf};
 
+pub mod reaches;
 pub mod reader;
 
 // What an item says. A polygon's coordinates stay in its bytes: `count` points.
@@ -55,7 +56,7 @@ pub fn ground(s: &[u8]) -> Color
     Color::rgb(byte_at(s, 4), byte_at(s, 5), byte_at(s, 6))
 }
 
-fn read_color(s: &[u8], p: usize) -> Color
+pub(crate) fn read_color(s: &[u8], p: usize) -> Color
     requires { ⌜ p < 131072 ⌝ }
     ensures { λ r. ⌜ r ≡ readColor (now (s .entry)) p ⌝ }
 {
@@ -67,14 +68,14 @@ fn read_color(s: &[u8], p: usize) -> Color
     )
 }
 
-fn read_pt(s: &[u8], p: usize) -> Pt
+pub(crate) fn read_pt(s: &[u8], p: usize) -> Pt
     requires { ⌜ p < 131072 ⌝ }
     ensures { λ r. ⌜ r ≡ readPt (now (s .entry)) p ⌝ }
 {
     Pt::new(f32_at(s, p), f32_at(s, p + 4))
 }
 
-fn read_rect(s: &[u8], p: usize) -> Rect
+pub(crate) fn read_rect(s: &[u8], p: usize) -> Rect
     requires { ⌜ p < 131072 ⌝ }
     ensures { λ r. ⌜ r ≡ readRect (now (s .entry)) p ⌝ }
 {

@@ -1,0 +1,100 @@
+-- The format is lawful: items that it calls the same are equal, and no reading is refused by 0. Assumes nothing.
+use Prim.Native.Nat.{ℕ, zero, suc, _≤_}
+use mathlib.Core.Path.{_≡_, refl, sym, ap, _∙_}
+use mathlib.Core.Bool.{Bool, true, false, cond, _&&_, false≢true}
+use mathlib.Core.List.{List, [], _∷_}
+use native.Mathlib.Omega.{arith}
+use lib.Dec.{eqb}
+use lib.IntN.{ℤ, pos, negsuc}
+use borrow.Author.Tests.{eqb-true, eqb-false, eq-eqb}
+use Rattle.geom.proofs.Bools.{and-left, and-right, split}
+use Rattle.geom.specs.Int.{eqZ}
+use Rattle.geom.specs.Box.{boxOf}
+use Rattle.geom.specs.declared.IRect.{IRect}
+use Rattle.sheet.specs.Check.{sheetCheck}
+use Rattle.redraw.specs.Drawing as drawing
+use Rattle.redraw.specs.Drawing.{push, pop, shape}
+use Rattle.redraw.specs.Sheet.{Reading, refused, read, Lawful}
+use Rattle.items.specs.Format.{sameBytes, sameBox, sameItem, sheetOf, reading, format}
+
+pub bytes-equal : (a b : List ℕ) → sameBytes a b ≡ true → a ≡ b
+unfolding sameBytes
+bytes-equal [] [] e = refl
+bytes-equal [] (y ∷ b) e = absurd (false≢true e)
+bytes-equal (x ∷ a) [] e = absurd (false≢true e)
+bytes-equal (x ∷ a) (y ∷ b) e =
+    rw (eqb-true x y (and-left _ (sameBytes a b) e), bytes-equal a b (and-right (eqb x y) _ e))
+
+pub bytes-same : (a : List ℕ) → sameBytes a a ≡ true
+unfolding sameBytes
+bytes-same [] = refl
+bytes-same (x ∷ a) = rw (eq-eqb x x refl) (bytes-same a)
+
+int-equal : (a b : ℤ) → eqZ a b ≡ true → a ≡ b
+int-equal (pos a) (pos b) e = ap pos (eqb-true a b e)
+int-equal (pos a) (negsuc b) e = absurd (false≢true e)
+int-equal (negsuc a) (pos b) e = absurd (false≢true e)
+int-equal (negsuc a) (negsuc b) e = ap negsuc (eqb-true a b e)
+
+int-same : (a : ℤ) → eqZ a a ≡ true
+int-same (pos a) = eq-eqb a a refl
+int-same (negsuc a) = eq-eqb a a refl
+
+box-equal : (p q : IRect) → sameBox p q ≡ true → p ≡ q
+unfolding sameBox
+box-equal p q e =
+    let xyx = and-left _ (eqZ (p .y1) (q .y1)) e in
+    let xy = and-left _ (eqZ (p .x1) (q .x1)) xyx in
+    boxes (int-equal (p .x0) (q .x0) (and-left _ (eqZ (p .y0) (q .y0)) xy)) (int-equal (p .y0) (q .y0) (and-right (eqZ (p .x0) (q .x0)) _ xy))
+    (int-equal (p .x1) (q .x1) (and-right (eqZ (p .x0) (q .x0) && eqZ (p .y0) (q .y0)) _ xyx))
+    (int-equal (p .y1) (q .y1) (and-right (eqZ (p .x0) (q .x0) && eqZ (p .y0) (q .y0) && eqZ (p .x1) (q .x1)) _ e))
+  where
+    boxes : p .x0 ≡ q .x0 → p .y0 ≡ q .y0 → p .x1 ≡ q .x1 → p .y1 ≡ q .y1 → p ≡ q
+    boxes a b c d = ap (λ (x : ℤ). boxOf x (p .y0) (p .x1) (p .y1)) a ∙ ap (λ (y : ℤ). boxOf (q .x0) y (p .x1) (p .y1)) b
+        ∙ ap (λ (x : ℤ). boxOf (q .x0) (q .y0) x (p .y1)) c ∙ ap (λ (y : ℤ). boxOf (q .x0) (q .y0) (q .x1) y) d
+
+pub box-same : (p : IRect) → sameBox p p ≡ true
+unfolding sameBox
+box-same p = rw (int-same (p .x0), int-same (p .y0), int-same (p .x1), int-same (p .y1))
+
+-- an item is the same as itself
+pub item-same : (i : drawing.Item (List ℕ)) → sameItem i i ≡ true
+unfolding sameItem
+item-same (push a p) = rw (bytes-same a, box-same p)
+item-same pop = refl
+item-same (shape a) = bytes-same a
+
+sound : (i j : drawing.Item (List ℕ)) → sameItem i j ≡ true → i ≡ j
+unfolding sameItem
+sound (push a p) (push b q) e = rw (bytes-equal a b (and-left _ (sameBox p q) e), box-equal p q (and-right (sameBytes a b) _ e))
+sound (push a p) pop e = absurd (false≢true e)
+sound (push a p) (shape b) e = absurd (false≢true e)
+sound pop (push b q) e = absurd (false≢true e)
+sound pop pop e = refl
+sound pop (shape b) e = absurd (false≢true e)
+sound (shape a) (push b q) e = absurd (false≢true e)
+sound (shape a) pop e = absurd (false≢true e)
+sound (shape a) (shape b) e = ap shape (bytes-equal a b e)
+
+abbrev isRefused : Reading (List ℕ) → Bool
+isRefused (refused n k) = true
+isRefused (read s) = false
+
+abbrev numberOf : Reading (List ℕ) → ℕ
+numberOf (refused n k) = n
+numberOf (read s) = 0
+
+positive : {n : ℕ} → (n ≡ 0 → ⊥) → 1 ≤ n
+positive h = omega arith
+
+numbered : (s : List ℕ) (n k : ℕ) → reading s ≡ refused n k → 1 ≤ n
+unfolding reading
+numbered s n k e =
+    split (eqb (sheetCheck s .number) 0)
+    (λ t. cond t (read (sheetOf s)) (refused (sheetCheck s .number) (sheetCheck s .item)) ≡ refused n k → 1 ≤ n)
+    (λ z r. absurd (false≢true (ap isRefused r)))
+    (λ z r. rw (sym (ap numberOf r)) (positive (eqb-false _ 0 z)))
+    e
+
+pub lawful : Lawful format
+lawful = record { sound = sound; numbered = numbered }
