@@ -15,7 +15,10 @@ use Rattle.sheet.specs.Check.{sheetCheck}
 use Rattle.redraw.specs.Drawing as drawing
 use Rattle.redraw.specs.Drawing.{push, pop, shape}
 use Rattle.redraw.specs.Sheet.{Reading, refused, read, Lawful}
-use Rattle.items.specs.Format.{sameBytes, sameBox, sameItem, sheetOf, reading, format}
+use Rattle.items.specs.Items.{itemOf}
+use Rattle.items.specs.Format.{drawnAs, itemIn, sameBytes, sameBox, sameItem, sheetOf, reading, format}
+use Rattle.items.specs.declared.Item.{Item}
+use Rattle.items.specs.declared.Item.the-variants.{Push, Pop, Fill, Stroke, Line, Poly, Shadow, Unknown}
 
 pub bytes-equal : (a b : List ℕ) → sameBytes a b ≡ true → a ≡ b
 unfolding sameBytes
@@ -61,19 +64,19 @@ box-same p = rw (int-same (p .x0), int-same (p .y0), int-same (p .x1), int-same 
 pub item-same : (i : drawing.Item (List ℕ)) → sameItem i i ≡ true
 unfolding sameItem
 item-same (push a p) = rw (bytes-same a, box-same p)
-item-same pop = refl
+item-same (pop a) = bytes-same a
 item-same (shape a) = bytes-same a
 
 sound : (i j : drawing.Item (List ℕ)) → sameItem i j ≡ true → i ≡ j
 unfolding sameItem
 sound (push a p) (push b q) e = rw (bytes-equal a b (and-left _ (sameBox p q) e), box-equal p q (and-right (sameBytes a b) _ e))
-sound (push a p) pop e = absurd (false≢true e)
+sound (push a p) (pop b) e = absurd (false≢true e)
 sound (push a p) (shape b) e = absurd (false≢true e)
-sound pop (push b q) e = absurd (false≢true e)
-sound pop pop e = refl
-sound pop (shape b) e = absurd (false≢true e)
+sound (pop a) (push b q) e = absurd (false≢true e)
+sound (pop a) (pop b) e = ap pop (bytes-equal a b e)
+sound (pop a) (shape b) e = absurd (false≢true e)
 sound (shape a) (push b q) e = absurd (false≢true e)
-sound (shape a) pop e = absurd (false≢true e)
+sound (shape a) (pop b) e = absurd (false≢true e)
 sound (shape a) (shape b) e = ap shape (bytes-equal a b e)
 
 abbrev isRefused : Reading (List ℕ) → Bool
@@ -98,3 +101,41 @@ numbered s n k e =
 
 pub lawful : Lawful format
 lawful = record { sound = sound; numbered = numbered }
+
+-- the bytes of an item
+abbrev bytesOf : drawing.Item (List ℕ) → List ℕ
+bytesOf (push b p) = b
+bytesOf (pop b) = b
+bytesOf (shape b) = b
+
+own : (b : List ℕ) (i : Item) → bytesOf (drawnAs b i) ≡ b
+unfolding drawnAs
+own b (Push rect) = refl
+own b Pop = refl
+own b (Fill rect r paint) = refl
+own b (Stroke rect r width color) = refl
+own b (Line p q width color) = refl
+own b (Poly paint count) = refl
+own b (Shadow rect r blur color skip) = refl
+own b Unknown = refl
+
+-- the items that some bytes are are the same where the bytes are
+module _ (a b : List ℕ) where
+  apart : (i j : drawing.Item (List ℕ)) → bytesOf i ≡ a → bytesOf j ≡ b → sameBytes a b ≡ false → sameItem i j ≡ false
+  unfolding sameItem
+  apart (push p u) (push q v) r s e = rw (r, s, e)
+  apart (push p u) (pop q) r s e = refl
+  apart (push p u) (shape q) r s e = refl
+  apart (pop p) (push q v) r s e = refl
+  apart (pop p) (pop q) r s e = rw (r, s) e
+  apart (pop p) (shape q) r s e = refl
+  apart (shape p) (push q v) r s e = refl
+  apart (shape p) (pop q) r s e = refl
+  apart (shape p) (shape q) r s e = rw (r, s) e
+
+  pub same-in : sameItem (itemIn a) (itemIn b) ≡ sameBytes a b
+  same-in =
+      split (sameBytes a b) (λ t. sameBytes a b ≡ t → sameItem (itemIn a) (itemIn b) ≡ t)
+      (λ e f. ap (λ (c : List ℕ). sameItem (itemIn a) (itemIn c)) (sym (bytes-equal a b e)) ∙ item-same (itemIn a))
+      (λ e f. apart (itemIn a) (itemIn b) (own a (itemOf a)) (own b (itemOf b)) e)
+      refl

@@ -67,7 +67,7 @@ kind = record { Shape = List ℕ; reach = λ b. reachOf b (itemOf b); ink = λ b
 -- the item as redraw has it: a push with the box that its rectangle's clip is cut to
 unfoldable pub drawnAs : List ℕ → Item → drawing.Item (List ℕ)
 drawnAs b (Push rect) = push b (outerOf rect)
-drawnAs b Pop = pop
+drawnAs b Pop = pop b
 drawnAs b (Fill rect r paint) = shape b
 drawnAs b (Stroke rect r width color) = shape b
 drawnAs b (Line a e width color) = shape b
@@ -86,7 +86,7 @@ itemsFrom s (suc left) k = itemIn (bytesAt s k) ∷ itemsFrom s left (k + 1)
 -- what an item needs, and the greatest need of a list of items, 0 without any
 unfoldable pub itemNeed : drawing.Item (List ℕ) → ℕ
 itemNeed (push b box) = 0
-itemNeed pop = 0
+itemNeed (pop b) = 0
 itemNeed (shape b) = needOf b (itemOf b)
 
 unfoldable pub needs : List (drawing.Item (List ℕ)) → ℕ
@@ -105,13 +105,13 @@ sameBox a b = eqZ (a .x0) (b .x0) && eqZ (a .y0) (b .y0) && eqZ (a .x1) (b .x1) 
 
 unfoldable pub sameItem : drawing.Item (List ℕ) → drawing.Item (List ℕ) → Bool
 sameItem (push a p) (push b q) = sameBytes a b && sameBox p q
-sameItem (push a p) pop = false
+sameItem (push a p) (pop b) = false
 sameItem (push a p) (shape b) = false
-sameItem pop (push b q) = false
-sameItem pop pop = true
-sameItem pop (shape b) = false
+sameItem (pop a) (push b q) = false
+sameItem (pop a) (pop b) = sameBytes a b
+sameItem (pop a) (shape b) = false
 sameItem (shape a) (push b q) = false
-sameItem (shape a) pop = false
+sameItem (shape a) (pop b) = false
 sameItem (shape a) (shape b) = sameBytes a b
 
 -- ---- the sheet

@@ -47,7 +47,7 @@ module _ (K : Kind) (x y : ℕ) where
     clips = in-meet (c .clip) b (pos x) (pos y) ∙ ap (λ (t : Bool). t && inside b (pos x) (pos y)) (a .clips) ∙ sym (in-meet (d .clip) b (pos x) (pos y));
     saves = more (a .clips) (a .saves);
   }
-  agree-after pop c d a = agree-popped (c .clip) (d .clip) (a .clips) (a .saves)
+  agree-after (pop s) c d a = agree-popped (c .clip) (d .clip) (a .clips) (a .saves)
   agree-after (shape b) c d a = a
 
   pub same-clips : (items : List (Item (K .Shape))) (c d : Clips) (p : ℕ) → Agree c d
@@ -55,7 +55,7 @@ module _ (K : Kind) (x y : ℕ) where
   unfolding steps withStep after pixel meets
   same-clips [] c d p a = refl
   same-clips (push s b ∷ r) c d p a = same-clips r _ _ p (agree-after (push s b) c d a)
-  same-clips (pop ∷ r) c d p a = same-clips r _ _ p (agree-after pop c d a)
+  same-clips (pop s ∷ r) c d p a = same-clips r _ _ p (agree-after (pop s) c d a)
   same-clips (shape b ∷ r) c d p a =
       let m : Bool → ℕ = λ i. inked K (i && inside (K .reach b) (pos x) (pos y)) b x y p in
       same-clips r c d (m (inside (c .clip) (pos x) (pos y))) a ∙ ap (λ (i : Bool). pixel K (steps r d) x y (m i)) (a .clips)
@@ -87,9 +87,9 @@ module _ {Shape : Type 0} (same : Item Shape → Item Shape → Bool) (sound : (
       → ((k : List (Shape × Shape)) → c ≡ shapes k → Edited r s k) → bothShapes i j c ≡ shapes l → Edited (i ∷ r) (j ∷ s) l
   unfolding bothShapes
   both-shapes (push s b) j c l f e = absurd (never cc)
-  both-shapes pop j c l f e = absurd (never cc)
+  both-shapes (pop s) j c l f e = absurd (never cc)
   both-shapes (shape a) (push s b) c l f e = absurd (never cc)
-  both-shapes (shape a) pop c l f e = absurd (never cc)
+  both-shapes (shape a) (pop s) c l f e = absurd (never cc)
   both-shapes (shape a) (shape b) c l f e = with-pair a b c l f e
 
   pub edited : (r s : List (Item Shape)) (l : List (Shape × Shape)) → change same r s ≡ shapes l → Edited r s l
@@ -130,7 +130,7 @@ module _ (K : Kind) (x y : ℕ) where
   unfolding steps withStep after pixel
   untouched none o c p = refl
   untouched (keep (push s b) e) o c p = untouched e o _ p
-  untouched (keep pop e) o c p = untouched e o _ p
+  untouched (keep (pop s) e) o c p = untouched e o _ p
   untouched (keep (shape a) e) o c p = untouched e o c _
   untouched (swap a b {r = r} {s = s} {l = l} e) o c p =
       let u = out-pair a b l o in

@@ -36,14 +36,14 @@ module _ (K : Kind) (x y : ℕ) where
   out-after : (i : Item (K .Shape)) (c : Clips) → Out c → Out (after i c)
   unfolding after
   out-after (push s b) c o = record { clips = rw (in-meet, o .clips); saves = more (o .clips) (o .saves) }
-  out-after pop c o = out-popped (c .clip) (o .clips) (o .saves)
+  out-after (pop s) c o = out-popped (c .clip) (o .clips) (o .saves)
   out-after (shape a) c o = o
 
   out-stays : (items : List (Item (K .Shape))) (c : Clips) (p : ℕ) → Out c → pixel K (steps items c) x y p ≡ p
   unfolding steps withStep after pixel meets inked
   out-stays [] c p o = refl
   out-stays (push s b ∷ r) c p o = out-stays r _ p (out-after (push s b) c o)
-  out-stays (pop ∷ r) c p o = out-stays r _ p (out-after pop c o)
+  out-stays (pop s ∷ r) c p o = out-stays r _ p (out-after (pop s) c o)
   out-stays (shape a ∷ r) c p o =
       ap (λ (t : Bool). pixel K (steps r c) x y (inked K (t && inside (K .reach a) (pos x) (pos y)) a x y p)) (o .clips)
       ∙ out-stays r c p o
@@ -71,7 +71,7 @@ module _ (K : Kind) (pitch : ℕ) where
   unfolding itemsOn itemOn
   length-items [] c px = refl
   length-items (push s b ∷ r) c px = length-items r _ px
-  length-items (pop ∷ r) c px = length-items r _ px
+  length-items (pop s ∷ r) c px = length-items r _ px
   length-items (shape a ∷ r) c px = length-items r _ (shapeOn K pitch (c .clip) a px) ∙ length-shape (c .clip) a px
 
   pub word-items : (items : List (Item (K .Shape))) (c : Clips) (px : List ℕ) (i : ℕ) → i < length px
@@ -79,7 +79,7 @@ module _ (K : Kind) (pitch : ℕ) where
   unfolding itemsOn itemOn steps withStep after pixel
   word-items [] c px i h = refl
   word-items (push s b ∷ r) c px i h = word-items r _ px i h
-  word-items (pop ∷ r) c px i h = word-items r _ px i h
+  word-items (pop s ∷ r) c px i h = word-items r _ px i h
   word-items (shape a ∷ r) c px i h =
       word-items r c (shapeOn K pitch (c .clip) a px) i (rw length-shape h)
       ∙ ap (λ (p : ℕ). pixel K (steps r c) (i % pitch) (i / pitch) p) (word-shape (c .clip) a px i h)

@@ -8,10 +8,10 @@ use Rattle.geom.specs.declared.IRect.{IRect}
 use Rattle.geom.specs.Box.{inside, meet}
 use Rattle.draw.specs.Draw.{eachAt, drawn}
 
--- an item: a push, by its bytes and by the box that the clip is cut to; a pop; a shape
+-- an item: a push, by its bytes and the box that the clip is cut to; a pop, by its bytes; a shape
 pub data Item (Shape : Type 0) : Type 0 where
   push : List ℕ → IRect → Item Shape
-  pop : Item Shape
+  pop : List ℕ → Item Shape
   shape : Shape → Item Shape
 
 -- the clip in force, and the saved clips, the last saved first
@@ -31,7 +31,7 @@ popped c (d ∷ s) = record { clip = d; saved = s }
 -- the clips after an item
 unfoldable pub after : {Shape : Type 0} → Item Shape → Clips → Clips
 after (push s b) c = record { clip = meet (c .clip) b; saved = c .clip ∷ c .saved }
-after pop c = popped (c .clip) (c .saved)
+after (pop s) c = popped (c .clip) (c .saved)
 after (shape a) c = c
 
 -- a shape and the clip under which it is drawn
@@ -41,7 +41,7 @@ pub record Step (Shape : Type 0) : Type 0 where
 
 unfoldable pub withStep : {Shape : Type 0} → Item Shape → IRect → List (Step Shape) → List (Step Shape)
 withStep (push s b) c l = l
-withStep pop c l = l
+withStep (pop s) c l = l
 withStep (shape a) c l = record { under = c; drawn = a } ∷ l
 
 -- the shapes of a list of items, each with the clip in force at it
@@ -96,7 +96,7 @@ module _ (K : Kind) where
   -- px after one item: a push or a pop leaves it
   unfoldable pub itemOn : ℕ → Item (K .Shape) → IRect → List ℕ → List ℕ
   itemOn pitch (push s b) c px = px
-  itemOn pitch pop c px = px
+  itemOn pitch (pop s) c px = px
   itemOn pitch (shape a) c px = shapeOn pitch c a px
 
   -- px after the items, from the clips c

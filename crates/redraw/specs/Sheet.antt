@@ -50,9 +50,9 @@ withPair a b (shapes l) = shapes ((a, b) ∷ l)
 
 unfoldable pub bothShapes : {Shape : Type 0} → Item Shape → Item Shape → Change Shape → Change Shape
 bothShapes (push s b) j c = other
-bothShapes pop j c = other
+bothShapes (pop s) j c = other
 bothShapes (shape a) (push s b) c = other
-bothShapes (shape a) pop c = other
+bothShapes (shape a) (pop s) c = other
 bothShapes (shape a) (shape b) c = withPair a b c
 
 module _ {Shape : Type 0} (same : Item Shape → Item Shape → Bool) where
