@@ -1,0 +1,176 @@
+-- An item that is in order, drawn by the canvas calls, is drawn as redraw has it: the clips after it, px and scratch. Assumes nothing.
+use Prim.Native.Nat.{ℕ, _-_, _*_, _%_, _≤_}
+use mathlib.Core.Path.{_≡_, refl, sym, ap, _∙_}
+use mathlib.Core.Bool.{Bool, true, false, cond, _&&_, false≢true}
+use mathlib.Core.List.{List}
+use native.Mathlib.Omega.{arith}
+use borrow.Author.Tests.{eq-eqb, eqb-true, ltb-true, leb-true, le-leb}
+use lib.Dec.{eqb, ltb, leb}
+use lib.Ieee.{Float}
+use lib.ListN.{length}
+use Rattle.geom.specs.Int.{up}
+use Rattle.geom.specs.Plane.{rectOk, ptOk, floatOk, outerOf}
+use Rattle.geom.specs.declared.IRect.{IRect}
+use Rattle.geom.specs.declared.Pt.{Pt}
+use Rattle.geom.specs.declared.Rect.{Rect}
+use Rattle.geom.proofs.Bools.{and-left, and-right, and-both, split}
+use Rattle.draw.specs.Draw.{drawn}
+use Rattle.gfx.specs.State.{validOf, pushed, unsaved, popped}
+use Rattle.gfx.specs.Calls.{areaOf, answer, left, stateNumber, pushNumber, shapeNumber}
+use Rattle.gfx.specs.Points.{pointsOk, coordsOk, pointsNumber}
+use Rattle.gfx.specs.Paints.{paintOk}
+use Rattle.gfx.specs.declared.Canvas.{Canvas}
+use Rattle.gfx.specs.declared.paints.Paint.{Paint}
+use Rattle.gfx.proofs.Kept.{Sound, push-clip-sound, pop-sound}
+use Rattle.gfx.proofs.Sizes.{Open}
+use Rattle.line.specs.Lines.{lineOk}
+use Rattle.poly.specs.Poly.{polyNumber, polyNeed, polyOk, reachIn, needIn, cleared}
+use Rattle.poly.proofs.Accepts.{need-in, reach-in}
+use Rattle.sheet.specs.Bytes.{floats}
+use Rattle.items.specs.Items.{itemOf, pointsOf}
+use Rattle.items.specs.Format.{reachOf, inkOf, needOf, drawnAs, kind}
+use Rattle.items.specs.declared.Item.{Item}
+use Rattle.items.specs.declared.Item.the-variants.{Push, Pop, Fill, Stroke, Line, Poly, Shadow, Unknown}
+use Rattle.items.proofs.Sound.{itemOk, savedAfter}
+use Rattle.items.proofs.PolyPoints.{coords-length, coords-ok}
+use Rattle.redraw.specs.Drawing as drawing
+use Rattle.render.specs.Stages.{stateAfter, called, polyPx, polyScratch, shapePx, shapeScratch}
+use Rattle.render.proofs.Clips.{clipsOf, clips-pushed, clips-popped}
+
+-- ---- the state
+
+-- what is known of a state after an item
+pub record After (b : List ℕ) (i : Item) (c r : Canvas) : Type 0 where
+  pub sound : Sound r
+  pub wide : r .w ≡ c .w
+  pub high : r .h ≡ c .h
+  pub depth : r .depth ≡ savedAfter i (c .depth)
+  pub clips : clipsOf r ≡ drawing.after (drawnAs b i) (clipsOf c)
+
+width-kept : (c : Canvas) → unsaved c .w ≡ c .w
+unfolding unsaved
+width-kept c = refl
+
+height-kept : (c : Canvas) → unsaved c .h ≡ c .h
+unfolding unsaved
+height-kept c = refl
+
+module _ (b : List ℕ) (c : Canvas) (s : Sound c) where
+  push-accepted : (rect : Rect) → rectOk rect && ltb (c .depth) 16 ≡ true → pushNumber c rect ≡ 0
+  unfolding pushNumber
+  push-accepted rect e = rw (s .valid, and-left (rectOk rect) _ e, and-right (rectOk rect) (ltb (c .depth) 16) e)
+
+  after-push : (rect : Rect) → rectOk rect && ltb (c .depth) 16 ≡ true → After b (Push rect) c (stateAfter (Push rect) c)
+  unfolding stateAfter answer drawnAs pushed
+  after-push rect e =
+      let n = push-accepted rect e in
+      rw (n)
+      (record {
+        sound = push-clip-sound c rect s n;
+        wide = refl;
+        high = refl;
+        depth = refl;
+        clips = clips-pushed c b (outerOf rect) (omega (arith, s .sized, ltb-true (c .depth) 16 (and-right (rectOk rect) (ltb (c .depth) 16) e)));
+      })
+
+  pop-kept : {A : Type 0} (f : Canvas → A) → f (unsaved c) ≡ f c → f (popped c) ≡ f c
+  unfolding popped
+  pop-kept f e = split (eqb (c .depth) 0) (λ t. f (cond t c (unsaved c)) ≡ f c) (λ z. refl) (λ z. e)
+
+  pop-depth : popped c .depth ≡ c .depth - 1
+  unfolding popped unsaved
+  pop-depth = split (eqb (c .depth) 0) (λ t. cond t c (unsaved c) .depth ≡ c .depth - 1) (λ z. omega (arith, eqb-true (c .depth) 0 z)) (λ z. refl)
+
+  after-pop : After b Pop c (stateAfter Pop c)
+  unfolding stateAfter answer drawnAs
+  after-pop =
+      rw (s .valid)
+      (record {
+        sound = pop-sound c s;
+        wide = pop-kept (λ (d : Canvas). d .w) (width-kept c);
+        high = pop-kept (λ (d : Canvas). d .h) (height-kept c);
+        depth = pop-depth;
+        clips = clips-popped c b;
+      })
+
+  after-same : (i : Item) → drawing.after (drawnAs b i) (clipsOf c) ≡ clipsOf c → savedAfter i (c .depth) ≡ c .depth → After b i c c
+  after-same i e d = record { sound = s; wide = refl; high = refl; depth = sym d; clips = sym e }
+
+  pub after-item : (i : Item) → itemOk b (c .depth) i ≡ true → After b i c (stateAfter i c)
+  unfolding itemOk stateAfter drawnAs drawing.after
+  after-item (Push rect) e = after-push rect e
+  after-item Pop e = after-pop
+  after-item (Fill rect r paint) e = after-same (Fill rect r paint) refl refl
+  after-item (Stroke rect r width color) e = after-same (Stroke rect r width color) refl refl
+  after-item (Line p q width color) e = after-same (Line p q width color) refl refl
+  after-item (Poly paint count) e = after-same (Poly paint count) refl refl
+  after-item (Shadow rect r blur color skip) e = after-same (Shadow rect r blur color skip) refl refl
+  after-item Unknown e = after-same Unknown refl refl
+
+-- ---- px and scratch
+
+three : (p q r : Bool) → p && q && r ≡ true → p && (q && r) ≡ true
+three p q r e = and-both (and-left p q (and-left (p && q) r e)) (and-both (and-right p q (and-left (p && q) r e)) (and-right (p && q) r e))
+
+line-ok : (p q : Pt) (width : Float) → ptOk p && ptOk q && floatOk width ≡ true → lineOk p q width ≡ true
+unfolding lineOk
+line-ok p q width e = e
+
+module _ (c : Canvas) (px : List ℕ) (o : Open c (length px)) where
+  -- a shape call whose floats are in range draws
+  shape-drawn : (ok : Bool) (reach : IRect) (ink : ℕ → ℕ → ℕ → ℕ) → ok ≡ true → called c ok reach ink px ≡ drawn (up (c .w)) (c .clip) reach ink px
+  unfolding left shapeNumber
+  shape-drawn ok reach ink e = rw (o .valid, eq-eqb (length px) (areaOf (c .w) (c .h)) (o .count), e)
+
+module _ (b : List ℕ) (count : ℕ) (paint : Paint) (ok : leb count 64 && floats b 32 (2 * count) && paintOk paint ≡ true) where
+  few : leb count 64 ≡ true
+  few = and-left _ (floats b 32 (2 * count)) (and-left _ (paintOk paint) ok)
+
+  coords : coordsOk (pointsOf b count) ≡ true
+  coords = coords-ok b 32 (2 * count) (and-right (leb count 64) _ (and-left _ (paintOk paint) ok))
+
+  points : pointsOk (pointsOf b count) ≡ true
+  unfolding pointsOk
+  points =
+      let even : 2 * count % 2 ≡ 0 = omega arith in
+      let short : 2 * count ≤ 128 = omega (arith, leb-true count 64 few) in
+      rw (coords-length b 32 (2 * count)) (and-both (eq-eqb (2 * count % 2) 0 even) (le-leb (2 * count) 128 short))
+
+  pub poly-ok : polyOk (pointsOf b count) ≡ true
+  unfolding polyOk
+  poly-ok = and-both points coords
+
+  poly-accepted : (c : Canvas) (px : List ℕ) (words : ℕ) → Open c (length px) → needIn (pointsOf b count) ≤ words
+      → polyNumber c (length px) (pointsOf b count) paint words ≡ 0
+  unfolding polyNumber pointsNumber
+  poly-accepted c px words o h =
+      rw (o .valid, eq-eqb (length px) (areaOf (c .w) (c .h)) (o .count), points, coords, and-right (leb count 64 && floats b 32 (2 * count)) _ ok,
+        le-leb (polyNeed (pointsOf b count)) words (rw (need-in _ poly-ok) at h))
+
+module _ (b : List ℕ) (c : Canvas) (px : List ℕ) (o : Open c (length px)) (scratch : List Float) where
+  -- px, by the item that the bytes are
+  pub px-item : (i : Item) → itemOf b ≡ i → itemOk b (c .depth) i ≡ true → needOf b i ≤ length scratch
+      → shapePx b i c px (length scratch) ≡ drawing.itemOn kind (up (c .w)) (drawnAs b i) (c .clip) px
+  unfolding shapePx itemOk needOf reachOf inkOf drawnAs drawing.itemOn drawing.shapeOn polyPx left
+  px-item (Push rect) e k h = refl
+  px-item Pop e k h = refl
+  px-item (Fill rect r paint) e k h = rw (e) (shape-drawn c px o _ _ _ k)
+  px-item (Stroke rect r width color) e k h = rw (e) (shape-drawn c px o _ _ _ (three (rectOk rect) (floatOk r) (floatOk width) k))
+  px-item (Line p q width color) e k h = rw (e) (shape-drawn c px o _ _ _ (line-ok p q width k))
+  px-item (Poly paint count) e k h =
+      rw (e, few b count paint k, poly-accepted b count paint k c px (length scratch) o h, reach-in _ (poly-ok b count paint k))
+  px-item (Shadow rect r blur color skip) e k h = rw (e) (shape-drawn c px o _ _ _ (three (rectOk rect) (floatOk r) (floatOk blur) k))
+  px-item Unknown e k h = absurd (false≢true k)
+
+  pub scratch-item : (i : Item) → itemOk b (c .depth) i ≡ true → needOf b i ≤ length scratch
+      → shapeScratch b i c (length px) scratch ≡ cleared (needOf b i) scratch
+  unfolding shapeScratch itemOk needOf polyScratch cleared
+  scratch-item (Push rect) k h = refl
+  scratch-item Pop k h = refl
+  scratch-item (Fill rect r paint) k h = refl
+  scratch-item (Stroke rect r width color) k h = refl
+  scratch-item (Line p q width color) k h = refl
+  scratch-item (Poly paint count) k h =
+      rw (few b count paint k, poly-accepted b count paint k c px (length scratch) o h, need-in _ (poly-ok b count paint k))
+  scratch-item (Shadow rect r blur color skip) k h = refl
+  scratch-item Unknown k h = absurd (false≢true k)

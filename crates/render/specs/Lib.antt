@@ -1,0 +1,2 @@
+-- The definitions that the contracts of render cite. Assumes nothing.
+pub mod Stages
