@@ -3,7 +3,7 @@
 use Prim.Native.Nat.{ℕ, zero, suc, _+_, _*_, _≤_, _<_, max}
 use mathlib.Core.Path.{_≡_, refl, sym, ap, _∙_}
 use mathlib.Core.Bool.{true}
-use mathlib.Core.List.{List, []}
+use mathlib.Core.List.{List, _∷_}
 use native.Mathlib.Nat.{add-zero, zero-add}
 use native.Mathlib.Omega.{arith}
 use lib.Ieee.{Float}
@@ -25,8 +25,8 @@ use Rattle.items.specs.declared.Item.{Item}
 use Rattle.items.specs.declared.Item.the-variants.{Push, Pop, Fill, Stroke, Line, Poly, Shadow, Unknown}
 use Rattle.items.proofs.Sound.{itemOk, savedAfter, item-ok, saved-after}
 use Rattle.redraw.specs.Drawing as drawing
-use Rattle.redraw.specs.Drawing.{itemOn, itemsOn}
-use Rattle.redraw.proofs.Items.{length-items}
+use Rattle.redraw.specs.Drawing.{push, pop, shape, itemOn, itemsOn}
+use Rattle.redraw.proofs.Items.{length-shape}
 use Rattle.render.specs.Stages.{Stage, stage, stateAfter, shapePx, shapeScratch, stageAfter, stagesFrom}
 use Rattle.render.proofs.Clips.{clipsOf}
 use Rattle.render.proofs.Cleared.{cleared-length, cleared-none, cleared-twice}
@@ -46,18 +46,84 @@ need-in b Unknown e = rw e
 
 -- px is as long after an item as before it
 length-item : (pitch : ℕ) (i : drawing.Item (List ℕ)) (clip : IRect) (px : List ℕ) → length (itemOn kind pitch i clip px) ≡ length px
-length-item pitch i clip px = ?
+unfolding itemOn
+length-item pitch (push b box) clip px = refl
+length-item pitch (pop b) clip px = refl
+length-item pitch (shape b) clip px = length-shape kind pitch clip b px
 
--- what is asked of a stage at the item k of a sheet
-pub record At (s : List ℕ) (k : ℕ) (t : Stage) (words : ℕ) : Type 0 where
+-- what is asked of a stage at the item k of a sheet, where the items from k on need so many words
+pub record At (s : List ℕ) (k : ℕ) (t : Stage) (need : ℕ) : Type 0 where
   pub sound : Sound (t .canvas)
   pub count : length (t .px) ≡ areaOf (t .canvas .w) (t .canvas .h)
   pub depth : t .canvas .depth ≡ depthBefore s k
-  pub words : words ≤ length (t .scratch)
+  pub words : need ≤ length (t .scratch)
+
+module _ (s : List ℕ) (e : sheetCheck s ≡ verdict 0 0) (k : ℕ) (h : k < countOf s) (t : Stage) (rest : List (drawing.Item (List ℕ)))
+    (a : At s k t (needs (itemIn (bytesAt s k) ∷ rest))) where
+  abbrev b : List ℕ
+  b = bytesAt s k
+
+  abbrev c : Canvas
+  c = t .canvas
+
+  item : AcceptedItem s k
+  item = accepted-item s k e h
+
+  ok : itemOk b (c .depth) (itemOf b) ≡ true
+  ok = rw (a .depth) (item-ok s k item)
+
+  opened : Open c (length (t .px))
+  opened = record { valid = a .sound .valid; count = a .count }
+
+  room : (needOf b (itemOf b) ≤ length (t .scratch)) × (needs rest ≤ length (t .scratch))
+  unfolding needs
+  room =
+      let both : max (needOf b (itemOf b)) (needs rest) ≤ length (t .scratch) = rw (need-in b (itemOf b) refl) at (a .words) in
+      (omega arith, omega arith)
+
+  next-state : After b (itemOf b) c (stateAfter (itemOf b) c)
+  next-state = after-item b c (a .sound) (itemOf b) ok
+
+  next-px : stageAfter b t .px ≡ itemOn kind (up (c .w)) (itemIn b) (c .clip) (t .px)
+  unfolding stageAfter
+  next-px = px-item b c (t .px) opened (t .scratch) (itemOf b) refl ok (room .0)
+
+  next-scratch : stageAfter b t .scratch ≡ cleared (itemNeed (itemIn b)) (t .scratch)
+  unfolding stageAfter
+  next-scratch = rw (need-in b (itemOf b) refl) (scratch-item b c (t .px) opened (t .scratch) (itemOf b) ok (room .0))
+
+  next-depth : savedAfter (itemOf b) (c .depth) ≡ depthBefore s (k + 1)
+  unfolding depthAt
+  next-depth =
+      rw (a .depth) (sym (saved-after b 0 (depthBefore s k)) ∙ ap (λ (n : ℕ). depthAfter n (depthBefore s k)) (kind-same s k item) ∙ sym (depth-next s k))
+
+  next-at : At s (k + 1) (stageAfter b t) (needs rest)
+  unfolding stageAfter
+  next-at =
+      record {
+        sound = next-state .sound;
+        count = ap length next-px ∙ length-item _ (itemIn b) _ (t .px) ∙ a .count ∙ rw (next-state .wide, next-state .high);
+        depth = next-state .depth ∙ next-depth;
+        words = rw (next-scratch, cleared-length (itemNeed (itemIn b)) (t .scratch) (rw (need-in b (itemOf b) refl) (room .0))) (room .1);
+      }
 
 module _ (s : List ℕ) (e : sheetCheck s ≡ verdict 0 0) where
   pub drawn-px : (n k : ℕ) (t : Stage) → k + n ≡ countOf s → At s k t (needs (itemsFrom s n k))
       → stagesFrom s n k t .px ≡ itemsOn kind (up (t .canvas .w)) (itemsFrom s n k) (clipsOf (t .canvas)) (t .px)
-  unfolding stagesFrom itemsFrom itemsOn
+  unfolding stagesFrom itemsFrom itemsOn stageAfter
   drawn-px zero k t h a = refl
-  drawn-px (suc n) k t h a = ?
+  drawn-px (suc n) k t h a =
+      let l : k < countOf s = omega arith in
+      let st = next-state s e k l t (itemsFrom s n (k + 1)) a in
+      drawn-px n (k + 1) (stageAfter (bytesAt s k) t) (omega arith) (next-at s e k l t (itemsFrom s n (k + 1)) a)
+      ∙ rw (st .wide, st .clips, next-px s e k l t (itemsFrom s n (k + 1)) a)
+
+  pub drawn-scratch : (n k : ℕ) (t : Stage) → k + n ≡ countOf s → At s k t (needs (itemsFrom s n k))
+      → stagesFrom s n k t .scratch ≡ cleared (needs (itemsFrom s n k)) (t .scratch)
+  unfolding stagesFrom itemsFrom needs
+  drawn-scratch zero k t h a = sym (cleared-none (t .scratch))
+  drawn-scratch (suc n) k t h a =
+      let l : k < countOf s = omega arith in
+      let i = itemIn (bytesAt s k) in
+      drawn-scratch n (k + 1) (stageAfter (bytesAt s k) t) (omega arith) (next-at s e k l t (itemsFrom s n (k + 1)) a)
+      ∙ rw (next-scratch s e k l t (itemsFrom s n (k + 1)) a) (cleared-twice (itemNeed i) (needs (itemsFrom s n (k + 1))) (t .scratch))
