@@ -33,7 +33,7 @@ use Rattle.render.proofs.Cleared.{cleared-length, cleared-none, cleared
 use Rattle.render.proofs.Steps.{After, after-item, px-item, scratch-item}
 
 -- an item needs what its bytes need
-need-in : (b : List ℕ) (i : Item) → itemOf b ≡ i → itemNeed (drawnAs b i) ≡ needOf b i
+pub need-in : (b : List ℕ) (i : Item) → itemOf b ≡ i → itemNeed (drawnAs b i) ≡ needOf b i
 unfolding itemNeed drawnAs needOf
 need-in b (Push rect) e = refl
 need-in b Pop e = refl

@@ -1,0 +1,3 @@
+-- The laws of painting. Assumes nothing.
+pub mod Needs
+pub mod Painting

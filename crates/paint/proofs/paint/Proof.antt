@@ -1,0 +1,83 @@
+-- `paint::paint` meets its contract, each return by its law. Assumes nothing.
+use mathlib.Core.Path.{_≡_, refl, sym, ap, _∙_}
+use Rattle.sheet.specs.declared.check.Verdict.{Verdict}
+use Rattle.items.specs.Format.{format, zeroWord}
+use Rattle.redraw.specs.Sheet.{answer}
+use Rattle.redraw.proofs.Rules.{paint-refused, does-refused, does-drawn}
+use Rattle.paint.proofs.Painting.{clean, reads-refused, lent-accepted, paint-refuses, paint-accepts, painted-px, painted-scratch}
+use borrow.Author.Needs.{needs}
+use Rattle.paint.proofs.paint.Statement.{statement}
+use Rattle.paint.proofs.paint.Tie as tie
+
+check-sheet-requires : tie.Need-check-sheet-requires
+check-sheet-requires c κs = tt
+
+refusal-requires : tie.Need-refusal-requires
+refusal-requires c κs = tt
+
+returns : tie.Need-returns
+returns c =
+    let v = c .before .before .check-sheet in
+    let a = c .before .before .before .before .before .before .args in
+    does-refused zeroWord format (a .px .now) (a .scratch .now) _ (v .result .number) (v .result .item) _
+    (paint-refused format (a .sheet .now) _ _ _ _ (reads-refused (a .sheet .now) _ _ (sym (v .ensures)) (c .before .if1 .taken)))
+    (c .refusal .ensures)
+
+lent-number-requires : tie.Need-lent-number-requires
+lent-number-requires c κs = tt
+
+refusal-requires-2 : tie.Need-refusal-requires-2
+refusal-requires-2 c κs = tt
+
+returns-2 : tie.Need-returns-2
+returns-2 c =
+    let v = c .before .before .before .before .check-sheet in
+    let a = c .before .before .before .before .before .before .before .before .args in
+    let n = c .before .before .lent-number .ensures in
+    let ok = clean (a .sheet .now) (sym (ap (λ (r : Verdict). r .number) (v .ensures)) ∙ c .before .before .before .if1 .left) in
+    does-refused zeroWord format (a .px .now) (a .scratch .now) _ _ 0 _
+    (paint-refuses (a .sheet .now) ok _ _ (rw n at (c .before .if2 .taken)))
+    (c .refusal2 .ensures ∙ rw n)
+
+canvas-of-requires : tie.Need-canvas-of-requires
+canvas-of-requires c κs = tt
+
+draw-all-requires : tie.Need-draw-all-requires
+draw-all-requires c κs = tt
+
+same-length : tie.Need-same-length
+same-length c = search needs
+
+same-length-2 : tie.Need-same-length-2
+same-length-2 c = search needs
+
+returns-3 : tie.Need-returns-3
+unfolding answer
+returns-3 c =
+    let v = c .before .before .before .before .before .before .before .before .before .before .before .check-sheet in
+    let a = c .before .before .before .before .before .before .before .before .before .before .before .before .before .before .before .args in
+    let ok = clean (a .sheet .now) (sym (ap (λ (r : Verdict). r .number) (v .ensures)) ∙ c .before .before .before .before .before .before .before .before .before .before .if1 .left) in
+    let z = sym (c .before .before .before .before .before .before .before .before .before .lent-number .ensures) ∙ c .before .before .before .before .before .before .before .before .if2 .left in
+    let l = lent-accepted (a .sheet .now) _ _ z in
+    let k = c .before .before .before .before .before .before .before .canvas-of .ensures in
+    let d = rw k at (c .before .before .before .before .draw-all .ensures) in
+    rw k
+    (does-drawn zeroWord format (a .px .now) (a .scratch .now) _ _ _ _ _ (paint-accepts (a .sheet .now) ok _ _ z) refl
+    (d .paints ∙ painted-px (a .sheet .now) ok (a .px .now) (a .scratch .now) (l .0) (l .1))
+    (d .clears ∙ painted-scratch (a .sheet .now) ok (a .px .now) (a .scratch .now) (l .0) (l .1)))
+
+pub paint-spec : {M : Type 1} → statement M
+paint-spec =
+    tie.close
+    (tie.spec
+    check-sheet-requires
+    refusal-requires
+    returns
+    lent-number-requires
+    refusal-requires-2
+    returns-2
+    canvas-of-requires
+    draw-all-requires
+    same-length
+    same-length-2
+    returns-3)
