@@ -3,21 +3,32 @@ use crate::{
     damage::damaged,
     item::{floats, paint_at},
     make::{any_shape, pop, push, shape},
-    Made, MOST_ITEMS,
+    Item, Made, MOST_ITEMS,
 };
 use answers::random::Random;
+use kash::geom::IRect;
 
 /// The ways, in the order of `WAYS`.
-pub const WAYS: [&str; 14] = [
+pub const WAYS: [&str; 15] = [
     "moved", "recoloured", "resized", "a bit altered", "another shape", "no difference", "two items", "header", "a clip", "count",
-    "damaged new sheet", "damaged old sheet", "px length", "scratch length",
+    "damaged new sheet", "px length", "scratch length", "damaged old sheet", "another old sheet",
 ];
-pub const RECOLOURED: usize = 1;
-pub const SAME: usize = 5;
-pub const DAMAGED_NEW: usize = 10;
-pub const DAMAGED_OLD: usize = 11;
-pub const PX: usize = 12;
-pub const SCRATCH: usize = 13;
+const MOVED: usize = 0;
+const RECOLOURED: usize = 1;
+const RESIZED: usize = 2;
+const A_BIT: usize = 3;
+const ANOTHER: usize = 4;
+const SAME: usize = 5;
+const TWO: usize = 6;
+const HEADER: usize = 7;
+const CLIP: usize = 8;
+const COUNT: usize = 9;
+const DAMAGED_NEW: usize = 10;
+pub const PX: usize = 11;
+pub const SCRATCH: usize = 12;
+/// From here on the old sheet is not the kept one, so the call is none of the list's.
+pub const APART: usize = 13;
+const DAMAGED_OLD: usize = 13;
 
 fn put(b: &mut [u8], at: usize, x: f32) {
     if x.abs() <= 8192.0 {
@@ -66,19 +77,26 @@ fn resized(b: &mut [u8], random: &mut Random, by_a_bit: bool) {
     put(b, at, if by_a_bit { near } else { random.of(&[x * 2.0, x * 0.5, other, 0.0]) });
 }
 
+/// A shape, mostly one that reaches into the canvas; or a clip's push or pop.
 fn at<'a>(made: &'a mut Made, random: &mut Random, shapes: bool) -> Option<&'a mut Vec<u8>> {
-    let fit: Vec<usize> = (0..made.items.len()).filter(|i| (made.items[*i][0] > 2) == shapes).collect();
+    let canvas = IRect::new(0, 0, made.w as i32, made.h as i32);
+    let mut fit: Vec<usize> = (0..made.items.len()).filter(|i| (made.items[*i][0] > 2) == shapes).collect();
+    let inside: Vec<usize> = fit.iter().copied().filter(|i| !Item::of(&made.items[*i]).reach().intersect(&canvas).is_empty()).collect();
+    if !inside.is_empty() && random.below(8) > 0 {
+        fit = inside;
+    }
     if fit.is_empty() { None } else { Some(&mut made.items[random.of(&fit)]) }
 }
 
 fn one_shape(made: &mut Made, random: &mut Random, way: usize) {
-    let sides = made.sides();
+    let (sides, canvas) = (made.sides(), IRect::new(0, 0, made.w as i32, made.h as i32));
     let Some(b) = at(made, random, true) else { return };
-    match way {
-        0 => moved(b, random),
+    let lost = Item::of(b).reach().intersect(&canvas).is_empty() && random.below(4) > 0;
+    match if lost { ANOTHER } else { way } {
+        MOVED => moved(b, random),
         RECOLOURED => recoloured(b, random),
-        2 => resized(b, random, false),
-        3 => resized(b, random, true),
+        RESIZED => resized(b, random, false),
+        A_BIT => resized(b, random, true),
         _ => *b = shape(3 + random.below(5) as u8, random, sides, 64),
     }
 }
@@ -98,21 +116,21 @@ fn clip(made: &mut Made, random: &mut Random) {
 pub fn changed(kept: &Made, random: &mut Random, way: usize) -> Made {
     let mut made = kept.clone();
     match way {
-        0..=4 => one_shape(&mut made, random, way),
-        6 => {
-            let ways = [0, 1, 2, 4];
+        MOVED..=ANOTHER => one_shape(&mut made, random, way),
+        SAME => (),
+        TWO => {
             for _ in 0..2 {
-                let way = random.of(&ways);
+                let way = random.of(&[MOVED, RECOLOURED, RESIZED, ANOTHER]);
                 one_shape(&mut made, random, way);
             }
         }
-        7 => match random.below(4) {
+        HEADER => match random.below(4) {
             0 => made.w = 1 + random.below(40) as u16,
             1 => made.h = 1 + random.below(40) as u16,
             _ => made.ground[random.below(3) as usize] ^= 1 << random.below(8),
         },
-        8 => clip(&mut made, random),
-        9 => {
+        CLIP => clip(&mut made, random),
+        COUNT => {
             let n = made.items.len() as u32;
             if n > 0 && random.below(2) == 0 {
                 made.items.remove(random.below(n) as usize);
@@ -122,8 +140,8 @@ pub fn changed(kept: &Made, random: &mut Random, way: usize) -> Made {
         }
         _ => {
             if random.below(2) == 0 {
-                let inner = random.below(5) as usize;
-                one_shape(&mut made, random, inner);
+                let way = random.of(&[MOVED, RECOLOURED, RESIZED, ANOTHER]);
+                one_shape(&mut made, random, way);
             }
         }
     }
@@ -138,10 +156,19 @@ pub fn way(random: &mut Random) -> usize {
     }
 }
 
-/// Old and new bytes of a patch in a way, and the new sheet's parts where its bytes are not damaged.
-pub fn patch(kept: &Made, random: &mut Random, way: usize) -> (Vec<u8>, Vec<u8>, Made) {
+/// Old and new bytes of a patch in a way.
+pub fn patch(kept: &Made, random: &mut Random, way: usize) -> (Vec<u8>, Vec<u8>) {
     let new = changed(kept, random, way);
-    let old_bytes = if way == DAMAGED_OLD { damaged(kept.clone(), random) } else { kept.bytes() };
-    let new_bytes = if way == DAMAGED_NEW { damaged(new.clone(), random) } else { new.bytes() };
-    (old_bytes, new_bytes, new)
+    let old_bytes = match way {
+        DAMAGED_OLD => damaged(kept.clone(), random),
+        APART.. => {
+            let mut old = new.clone();
+            one_shape(&mut old, random, ANOTHER);
+            old.bytes()
+        }
+        _ => kept.bytes(),
+    };
+    let spoilt = way == DAMAGED_NEW || way >= APART && random.below(4) == 0;
+    let new_bytes = if spoilt { damaged(new, random) } else { new.bytes() };
+    (old_bytes, new_bytes)
 }

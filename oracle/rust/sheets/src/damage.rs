@@ -49,6 +49,12 @@ fn place(made: &mut Made, random: &mut Random, kinds: &[u8]) -> usize {
 const SHAPES: [u8; 5] = [3, 4, 5, 6, 7];
 const ALL: [u8; 7] = [1, 2, 3, 4, 5, 6, 7];
 
+fn set(b: &mut [u8], at: usize, value: u8) {
+    if let Some(was) = b.get_mut(at) {
+        *was = value;
+    }
+}
+
 /// Wrong in an item, the pairs running as they must.
 fn in_item(made: &mut Made, random: &mut Random) {
     let any = byte(random);
@@ -67,7 +73,7 @@ fn in_item(made: &mut Made, random: &mut Random) {
             match random.below(3) {
                 0 => b.truncate(random.below(6) as usize),
                 1 => b.push(0),
-                _ => b.truncate(b.len() - 1),
+                _ => _ = b.pop(),
             }
         }
         3 | 4 => {
@@ -80,13 +86,12 @@ fn in_item(made: &mut Made, random: &mut Random) {
         }
         5 => {
             let at = place(made, random, &[3, 6]);
-            let b = &mut made.items[at];
-            let kind = paint_at(b[0]).unwrap_or(0);
-            b[kind] = random.of(&[4, 4, 5, 255, any]);
+            let kind = paint_at(made.items[at][0]).unwrap_or(0);
+            set(&mut made.items[at], kind, random.of(&[4, 4, 5, 255, any]));
         }
         6 => {
             let at = place(made, random, &[7]);
-            made.items[at][1] = random.of(&[2, 2, 3, 255]);
+            set(&mut made.items[at], 1, random.of(&[2, 2, 3, 255]));
         }
         7 | 8 => {
             let at = place(made, random, &SHAPES);
@@ -96,9 +101,9 @@ fn in_item(made: &mut Made, random: &mut Random) {
                 b[at..at + 4].copy_from_slice(&wide(random).to_le_bytes());
             }
         }
-        9 => {
+        9 | 10 => {
             let (sides, at) = (made.sides(), random.below(made.items.len() as u32 + 1) as usize);
-            let many = MOST_SAVED as u32 + random.below(3);
+            let many = MOST_SAVED + random.of(&[0, 1, 1, 2]);
             (0..many).for_each(|_| made.items.insert(at, push(random, sides)));
         }
         _ => {

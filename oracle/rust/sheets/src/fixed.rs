@@ -137,9 +137,10 @@ pub fn check() {
         let a = crate::patch(&p.old, &p.new, p.px, p.scratch).answer;
         assert_eq!((a.number, a.item, [a.x0, a.y0, a.x1, a.y1]), (p.number, p.item, p.area), "patch {i}");
     }
-    let pixels = |p: &Painting| crate::paint(&p.sheet, p.px, p.scratch).pixels(&vec![0xffff_ffff; p.px]);
-    assert_eq!(pixels(&paintings()[0]), [0x00ff_0000, 0, 0, 0]);
-    assert_eq!(pixels(&paintings()[1]), [0x0080_8080; 2]);
-    let patched = crate::patch(&red(0.0), &red(2.0), 4, 0).pixels(&[0x00ff_0000, 0, 0, 0]);
+    let left = |expected: crate::Expected, before: &[u32]| expected.pixels(before, expected.fresh().as_deref());
+    let painted = |p: &Painting| left(crate::paint(&p.sheet, p.px, p.scratch), &vec![0xffff_ffff; p.px]);
+    assert_eq!(painted(&paintings()[0]), [0x00ff_0000, 0, 0, 0]);
+    assert_eq!(painted(&paintings()[1]), [0x0080_8080; 2]);
+    let patched = left(crate::patch(&red(0.0), &red(2.0), 4, 0), &[0x00ff_0000, 0, 0, 0]);
     assert_eq!(patched, [0, 0, 0x00ff_0000, 0]);
 }

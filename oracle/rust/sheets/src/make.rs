@@ -1,5 +1,5 @@
 //! Random sheets, as parts that can be altered: sides, ground and the bytes of each item.
-use crate::{item, LONGEST, MOST_ITEMS, MOST_SAVED};
+use crate::{item, Sheet, LONGEST, MOST_ITEMS, MOST_SAVED};
 use answers::{
     random::Random,
     shape::{call, Call},
@@ -14,6 +14,12 @@ pub struct Made {
 }
 
 impl Made {
+    /// The parts of a sheet that was read.
+    pub fn of(sheet: &Sheet) -> Made {
+        let items = sheet.items.iter().map(|(_, bytes)| bytes.clone()).collect();
+        Made { w: sheet.w as u16, h: sheet.h as u16, ground: sheet.ground, items }
+    }
+
     /// The sheet's bytes.
     pub fn bytes(&self) -> Vec<u8> {
         let mut bytes = [self.w, self.h].map(u16::to_le_bytes).concat();

@@ -22,10 +22,6 @@ impl Answer {
     fn accepted(area: IRect) -> Answer {
         Answer { number: 0, item: 0, x0: area.x0, y0: area.y0, x1: area.x1, y1: area.y1 }
     }
-
-    pub fn area(&self) -> [usize; 4] {
-        [self.x0, self.y0, self.x1, self.y1].map(|z| z as usize)
-    }
 }
 
 /// What a call must return, how many of the first scratch words it leaves +0, and the sheet that it painted if it was accepted.
@@ -40,13 +36,18 @@ impl Expected {
         Expected { answer: Answer::refused(fault), swept: 0, sheet: None }
     }
 
+    /// The pixels of a fresh painting, where the call is accepted.
+    pub fn fresh(&self) -> Option<Vec<u32>> {
+        self.sheet.as_ref().map(Sheet::fresh)
+    }
+
     /// The pixels left by the call: within the box those of a fresh painting, the others as they came.
-    pub fn pixels(&self, before: &[u32]) -> Vec<u32> {
+    pub fn pixels(&self, before: &[u32], fresh: Option<&[u32]>) -> Vec<u32> {
         let mut px = before.to_vec();
-        if let Some(sheet) = &self.sheet {
-            let (fresh, [x0, y0, x1, y1]) = (sheet.fresh(), self.answer.area());
-            for y in y0..y1 {
-                px[y * sheet.w + x0..y * sheet.w + x1].copy_from_slice(&fresh[y * sheet.w + x0..y * sheet.w + x1]);
+        if let (Some(sheet), Some(fresh)) = (&self.sheet, fresh) {
+            let [x0, y0, x1, y1] = [self.answer.x0, self.answer.y0, self.answer.x1, self.answer.y1].map(|z| z as usize);
+            for row in (y0..y1).map(|y| y * sheet.w) {
+                px[row + x0..row + x1].copy_from_slice(&fresh[row + x0..row + x1]);
             }
         }
         px

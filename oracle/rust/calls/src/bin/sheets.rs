@@ -16,9 +16,9 @@ fn examples() -> Vec<Given> {
     fixed::paintings().into_iter().map(|p| Given { sheet: p.sheet, px: p.px, scratch: p.scratch }).collect()
 }
 
-/// Case n: one in two is damaged, one in sixteen is lent a wrong count of pixels, one in sixteen too little scratch.
+/// What a case is given: one in two is damaged, one in sixteen is lent a wrong count of pixels, one in sixteen too little scratch.
 fn given(random: &mut Random) -> Given {
-    let made = make::sheet(random, 40, 14);
+    let made = make::sheet(random, 40, 24);
     let (area, bytes) = (made.area(), if random.below(2) == 0 { damaged(made, random) } else { made.bytes() });
     let (area, need) = match Sheet::read(&bytes) {
         Ok(sheet) => (sheet.w * sheet.h, sheet.need()),
@@ -50,7 +50,7 @@ impl Run {
         let px: Vec<u32> = (0..given.px).map(|_| random.word()).collect();
         let scratch = dirty(given.scratch, random);
         let expected = paint(&given.sheet, given.px, given.scratch);
-        let after = expected.pixels(&px);
+        let after = expected.pixels(&px, expected.fresh().as_deref());
         let left = self.memory.call(None, &given.sheet, &px, &scratch, random);
         self.numbers.add(expected.answer.number);
         self.pixels += after.len() as u64;
