@@ -42,5 +42,5 @@ fn case(f: u32, random: &mut Random) -> Vec<u32> {
 pub fn stored() -> Stored {
     let mut random = Random(SEED + 7);
     let cases = (1..=NAMES.len() as u32).flat_map(|f| (0..114).map(|_| case(f, &mut random)).collect::<Vec<_>>()).collect();
-    Stored { names: &NAMES, width: WIDTH, cases }
+    Stored { first: 1, names: &NAMES, width: WIDTH, cases }
 }

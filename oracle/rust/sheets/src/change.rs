@@ -23,12 +23,12 @@ const TWO: usize = 6;
 const HEADER: usize = 7;
 const CLIP: usize = 8;
 const COUNT: usize = 9;
-const DAMAGED_NEW: usize = 10;
+pub const DAMAGED_NEW: usize = 10;
 pub const PX: usize = 11;
 pub const SCRATCH: usize = 12;
 /// From here on the old sheet is not the kept one, so the call is none of the list's.
 pub const APART: usize = 13;
-const DAMAGED_OLD: usize = 13;
+pub const DAMAGED_OLD: usize = 13;
 
 fn put(b: &mut [u8], at: usize, x: f32) {
     if x.abs() <= 8192.0 {

@@ -137,21 +137,21 @@ fn count(random: &mut Random, most: u32) -> usize {
 
 /// A sheet that is accepted; sides up to `small` mostly, items up to `most` mostly.
 pub fn sheet(random: &mut Random, small: u32, most: u32) -> Made {
-    let ([w, h], n) = (sides(random, small), count(random, most));
+    let (sides, n) = (sides(random, small), count(random, most));
+    on(random, sides, n, 64)
+}
+
+/// A sheet of n items that is accepted, on a canvas of the sides given; its polygons have up to `points` points.
+pub fn on(random: &mut Random, [w, h]: [u16; 2], n: usize, points: u32) -> Made {
     let ground = if random.below(4) == 0 { [0; 3] } else { [random.word() as u8, random.word() as u8, random.word() as u8] };
     let mut made = Made { w, h, ground, items: vec![] };
     let (mut depth, deep) = (0, random.below(16) == 0);
     while made.items.len() < n {
-        let wants = match random.below(if deep { 12 } else { 100 }) {
-            0..=9 => 1,
-            10..=16 => 2,
-            _ => 3,
-        };
-        let item = match wants {
-            1 if depth < MOST_SAVED => push(random, made.sides()),
-            2 => pop(),
+        let item = match random.below(if deep { 12 } else { 100 }) {
+            0..=9 if depth < MOST_SAVED => push(random, made.sides()),
+            10..=16 => pop(),
             _ if n > 200 => shape(4 + (made.items.len() % 2) as u8, random, made.sides(), 6),
-            _ => any_shape(random, made.sides(), 64),
+            _ => any_shape(random, made.sides(), points),
         };
         match item[0] {
             1 => depth += 1,
