@@ -80,7 +80,7 @@ fn sound(random: &mut Random) -> Made {
 fn lent(sheet: &[u8], made: &Made, random: &mut Random) -> (usize, usize) {
     let (area, need) = Sheet::read(sheet).map_or((made.area(), random.below(40) as usize), |s| (s.w * s.h, s.need()));
     let px = if random.below(12) == 0 { random.of(&[area - 1, area + 1, 0]) } else { area };
-    let scratch = if random.below(12) == 0 { random.of(&[need.saturating_sub(1), 0]) } else { need + random.of(&[0, 0, 1, 9]) };
+    let scratch = if random.below(6) == 0 { random.of(&[need.saturating_sub(1), 0]) } else { need + random.of(&[0, 0, 1, 9]) };
     (px.min(PIXELS), scratch)
 }
 
