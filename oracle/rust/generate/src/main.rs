@@ -10,6 +10,7 @@ mod color;
 mod geom;
 mod mathf;
 mod paint;
+mod paintsheet;
 mod shape;
 mod sheet;
 
@@ -60,4 +61,5 @@ fn main() {
     shape::stored().write(&folder("replay_shapes"));
     sheet::paintings().write(&folder("replay_sheets"));
     sheet::patches().write(&folder("replay_patches"));
+    paintsheet::write(&given(2).join("paintsheet"), &given(1).join("paintsheet"));
 }

@@ -7,6 +7,7 @@ pub mod item;
 pub mod make;
 pub mod model;
 pub mod sheet;
+pub mod text;
 
 pub use item::Item;
 pub use make::Made;
