@@ -98,13 +98,24 @@ pub fn any_shape(random: &mut Random, sides: [i32; 2], most: u32) -> Vec<u8> {
     shape(kind, random, sides, most)
 }
 
-pub fn push(random: &mut Random, [w, h]: [i32; 2]) -> Vec<u8> {
+pub fn push(random: &mut Random, sides: [i32; 2]) -> Vec<u8> {
+    let kind = random.below(8);
+    push_of(kind, random, sides)
+}
+
+/// A push that leaves most of the clip, so that many can stand in each other.
+fn wide_push(random: &mut Random, sides: [i32; 2]) -> Vec<u8> {
+    let kind = if random.below(12) == 0 { 2 } else { 5 };
+    push_of(kind, random, sides)
+}
+
+fn push_of(kind: u32, random: &mut Random, [w, h]: [i32; 2]) -> Vec<u8> {
     let (w, h) = (w as f32, h as f32);
-    let floats = match random.below(8) {
+    let floats = match kind {
         0 => call(3, random, [w as i32, h as i32], 6).coords,
         1 => vec![random.within(-9.0, w), random.within(-9.0, h), random.within(-2.0, w), random.within(-2.0, h)],
         2..=4 => vec![random.within(-1.0, 0.3 * w), random.within(-1.0, 0.3 * h), random.within(0.4 * w, w), random.within(0.4 * h, h)],
-        _ => vec![random.within(-2.0, 0.5), random.within(-2.0, 0.5), w + random.within(0.0, 2.0), h + random.within(0.0, 2.0)],
+        _ => vec![random.within(-2.0, 0.9), random.within(-2.0, 0.9), w + random.within(0.0, 2.0), h + random.within(0.0, 2.0)],
     };
     bytes([1, 0, 0, 0], &floats)
 }
@@ -147,9 +158,11 @@ pub fn on(random: &mut Random, [w, h]: [u16; 2], n: usize, points: u32) -> Made 
     let mut made = Made { w, h, ground, items: vec![] };
     let (mut depth, deep) = (0, random.below(16) == 0);
     while made.items.len() < n {
-        let item = match random.below(if deep { 12 } else { 100 }) {
+        let item = match random.below(if deep { 20 } else { 100 }) {
+            0..=9 if deep && depth < MOST_SAVED => wide_push(random, made.sides()),
             0..=9 if depth < MOST_SAVED => push(random, made.sides()),
-            10..=16 => pop(),
+            10..=13 => pop(),
+            14..=16 if !deep => pop(),
             _ if n > 200 => shape(4 + (made.items.len() % 2) as u8, random, made.sides(), 6),
             _ => any_shape(random, made.sides(), points),
         };
