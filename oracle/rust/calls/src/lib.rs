@@ -5,7 +5,8 @@ use answers::random::Random;
 use lent::{bytes, Lent};
 use sheets::{Answer, Expected};
 
-mod raw {
+/// The functions as they are exported.
+pub mod raw {
     use sheets::Answer;
     extern "C" {
         pub fn maldjupp_paint(sheet: *const u8, n: usize, px: *mut u32, m: usize, scratch: *mut f32, k: usize) -> Answer;

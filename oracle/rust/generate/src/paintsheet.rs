@@ -25,30 +25,29 @@ fn cases() -> Vec<(String, Vec<u8>, &'static str)> {
     };
     // Those of document 01 whose number does not hang on what is lent.
     for p in fixed::paintings().into_iter().filter(|p| p.number != 8 && p.number != 9 && p.name != "largest") {
-        let name = if p.number == 0 { p.name.to_string() } else { format!("refused_{}_{}", p.number, p.name) };
         let known = match p.name {
             "red" => "00FF0000 00000000 00000000 00000000\n",
             "half_covered" => "00808080 00808080\n",
             "empty" => "00000000\n",
             _ => refused(p.number),
         };
-        all.push((name, p.sheet, known));
+        all.push((p.name.to_string(), p.sheet, known));
     }
     let mut add = |name: &str, sheet: Vec<u8>, known| all.push((name.to_string(), sheet, known));
     add("red_patched", fixed::red(2.0), "00000000 00000000 00FF0000 00000000\n");
     add("px_16384", made(128, 128, vec![fill(0.5, 0.5, 127.0, 127.0, RED)]).bytes(), "");
-    add("refused_8_px_16512", made(129, 128, vec![]).bytes(), refused(8));
-    add("refused_8_largest", made(2048, 2048, vec![]).bytes(), refused(8));
-    add("refused_8_before_9", made(2048, 9, vec![polygon(&[0.0, 0.0, 200.0, 0.0, 200.0, 200.0], RED)]).bytes(), refused(8));
+    add("px_16512", made(129, 128, vec![]).bytes(), refused(8));
+    add("largest", made(2048, 2048, vec![]).bytes(), refused(8));
+    add("before_9", made(2048, 9, vec![polygon(&[0.0, 0.0, 200.0, 0.0, 200.0, 200.0], RED)]).bytes(), refused(8));
     let mut wrong = made(2048, 2048, vec![fill(0.0, 0.0, 1.0, 1.0, RED)]);
     wrong.items[0][0] = 9;
-    add("refused_4_before_8", wrong.bytes(), refused(4));
-    add("refused_9_scratch", made(4, 4, vec![polygon(&[0.0, 0.0, 200.0, 0.0, 200.0, 200.0], RED)]).bytes(), refused(9));
+    add("before_8", wrong.bytes(), refused(4));
+    add("scratch", made(4, 4, vec![polygon(&[0.0, 0.0, 200.0, 0.0, 200.0, 200.0], RED)]).bytes(), refused(9));
     // Two rows of 8,191 cells and 2 words: 16,384; a column more is 16,386.
     let level = |x: f32| made(4, 4, vec![polygon(&[0.0, 0.0, x, 0.0, x, 0.0], RED), fill(1.0, 1.0, 2.0, 2.0, RED)]).bytes();
     assert_eq!(Sheet::read(&level(8187.0)).unwrap().need(), AT_HAND);
     add("scratch_16384", level(8187.0), "");
-    add("refused_9_scratch_16386", level(8188.0), refused(9));
+    add("scratch_16386", level(8188.0), refused(9));
     for i in 0..4 {
         let mut random = Random(SEED + 20 + i);
         add(&format!("random_{i}"), make::on(&mut random, [16, 12], 12, 8).bytes(), "");
@@ -63,6 +62,10 @@ pub fn write(folder: &Path, program: &Path) {
     for (i, (name, sheet, known)) in cases.iter().enumerate() {
         let out = text(sheet, AT_HAND);
         assert!(known.is_empty() || out == *known, "{name} prints {out}");
+        let name = match out.split(' ').collect::<Vec<_>>()[..] {
+            ["refused", number, ..] => format!("refused_{number}_{name}"),
+            _ => name.clone(),
+        };
         fs::write(folder.join(format!("{name}.in")), sheet).unwrap();
         fs::write(folder.join(format!("{name}.out")), &out).unwrap();
         if i == 0 && program.exists() {

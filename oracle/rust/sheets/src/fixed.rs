@@ -73,6 +73,10 @@ pub fn paintings() -> Vec<Painting> {
     add("square", made(4, 4, vec![square()]).bytes(), 16, 26, 0, 0);
     add("points_64", made(4, 1, vec![polygon(&[0.5; 128], RED)]).bytes(), 4, 17, 0, 0);
     add("points_65", made(4, 1, vec![polygon(&[0.5; 130], RED)]).bytes(), 4, 17, 13, 1);
+    let triangle = |x: f32| made(4, 4, vec![polygon(&[-1994.0, 0.0, x, 0.0, x, 1998.0], RED)]).bytes();
+    add("cells_4000000", triangle(4.0), 16, 4_004_002, 0, 0);
+    add("cells_4000000_short", triangle(4.0), 16, 4_004_001, 9, 0);
+    add("cells_4002000", triangle(4.5), 16, 0, 0, 0);
     // A canvas of 2,048 a side; the longest sheet, one byte more, and the most items.
     let far = fill(-8192.0, -8192.0, 8192.0 * 2.0 - 8192.0, 8192.0, white);
     let round = [bytes([3, 0, 0, 0], &[1.5, 2.5, 2040.25, 2039.75, 700.0]), solid([9, 200, 30, 128])].concat();
@@ -124,6 +128,8 @@ pub fn patches() -> Vec<Patch> {
     add(squared(0.0), squared(2.0), 16, 26, 0, 0, [0, 0, 3, 1]);
     add(squared(0.0), squared(0.0), 16, 25, 9, 0, [0; 4]);
     add(squared(0.0), squared(0.0), 16, 30, 0, 0, [0; 4]);
+    let triangle = |x: f32| made(4, 4, vec![polygon(&[-1994.0, 1.0, x, 1.0, x, 1999.0], RED)]).bytes();
+    add(triangle(4.5), triangle(5.0), 16, 0, 0, 0, [0; 4]);
     all
 }
 

@@ -93,9 +93,26 @@ pub fn polygon(random: &mut Random, sides: [i32; 2], m: usize) -> Vec<u8> {
     of_call(&made)
 }
 
+/// A polygon whose cells are 4,000,000, the most that are painted, or just over or under.
+pub fn limit_polygon(random: &mut Random) -> Vec<u8> {
+    let most = random.of(&[16_000, 2_000]);
+    let columns = 250 + random.below(most) as i32;
+    let rows = 4_000_000 / columns + random.below(2) as i32;
+    let mut ends = |cells: i32| {
+        let span = cells - 2;
+        let from = (-(random.below(span as u32 + 1) as i32)).max(-8192).min(8192 - span);
+        [from as f32, (from + span) as f32]
+    };
+    let ([x0, x1], [y0, y1]) = (ends(columns), ends(rows));
+    let mut made = call(8, random, [40, 40], 6);
+    made.coords = vec![x0, y0, x1, y0, x0, y1, x1, y1];
+    of_call(&made)
+}
+
+/// A shape of any kind; in a sheet whose polygons may have many points, one in 4,000 is a polygon of the most cells.
 pub fn any_shape(random: &mut Random, sides: [i32; 2], most: u32) -> Vec<u8> {
     let kind = random.of(&[3, 3, 3, 4, 5, 5, 6, 6, 7]);
-    shape(kind, random, sides, most)
+    if most > 8 && random.below(4_000) == 0 { limit_polygon(random) } else { shape(kind, random, sides, most) }
 }
 
 pub fn push(random: &mut Random, sides: [i32; 2]) -> Vec<u8> {

@@ -1,15 +1,11 @@
 //! Speed of painting and patching a ticket beside the unchanged Rust: `ticket SHEET OTHER`, two files of sheets that differ in one shape.
 //! The smallest time of 200 rounds, the two in turn. The Rust draws items that were read before, on a canvas that is there.
+use calls::raw::{maldjupp_paint, maldjupp_patch};
 use kash::{color::Color, gfx::Canvas};
-use sheets::{patch, Answer, Sheet};
+use sheets::{patch, Sheet};
 use std::{env, fs, hint::black_box, time::Instant};
 
 const ROUNDS: usize = 200;
-
-extern "C" {
-    fn maldjupp_paint(sheet: *const u8, n: usize, px: *mut u32, m: usize, scratch: *mut f32, k: usize) -> Answer;
-    fn maldjupp_patch(old: *const u8, o: usize, new: *const u8, n: usize, px: *mut u32, m: usize, scratch: *mut f32, k: usize) -> Answer;
-}
 
 fn micros(least: &mut f64, work: impl FnOnce()) {
     let began = Instant::now();
