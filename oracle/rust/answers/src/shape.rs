@@ -171,12 +171,16 @@ impl Call {
                 let n = random.of(&[1, 3, 5, 11, 129, 130]);
                 self.coords.resize(n, 1.0);
             }
-            3 if self.need() > 0 => given.scratch = random.of(&[self.need() - 1, 0]),
+            3 if self.coords.len() % 2 == 0 && self.coords.iter().all(|x| x.abs() <= 8192.0) && self.need() > 0 => {
+                given.scratch = random.of(&[self.need() - 1, 0]);
+            }
             _ => {
                 let wide = random.of(&[f32::NAN, f32::INFINITY, f32::NEG_INFINITY, 8192.001, -8192.001, 8193.0, f32::MAX]);
                 let mut all = self.floats();
-                let at = random.below(all.len() as u32) as usize;
-                *all[at] = wide;
+                let at = random.below(all.len().max(1) as u32) as usize;
+                if let Some(x) = all.get_mut(at) {
+                    **x = wide;
+                }
             }
         }
     }
