@@ -73,14 +73,18 @@ fn wide_polygon(random: &mut Random, sides: [i32; 2]) -> Call {
     }
 }
 
-/// A call of shape f that is refused, by one thing wrong or by two.
-fn refused(f: u32, random: &mut Random) -> Vec<u32> {
+/// A call of shape f that is refused, by one thing wrong or by two; through 65 points where `many`.
+fn refused(f: u32, random: &mut Random, many: bool) -> Vec<u32> {
     loop {
         let (canvas, base, step) = canvas(random);
         let sides = [canvas.w, canvas.h];
         let mut given = Given { sides, clip: canvas.clip(), px: canvas.px.len(), scratch: SCRATCH };
         let mut made = if f == FILL_POLY && random.below(4) == 0 { wide_polygon(random, sides) } else { call(f, random, sides, 6) };
-        (0..random.below(3)).for_each(|_| made.spoil(&mut given, random));
+        if many {
+            made.coords.resize(130, 1.0);
+        } else {
+            (0..random.below(3)).for_each(|_| made.spoil(&mut given, random));
+        }
         given.scratch = SCRATCH;
         let number = made.number(&given);
         if number == 0 || given.px > PIXELS || made.coords.len() > COORDS && number != 13 {
@@ -107,7 +111,8 @@ pub fn stored() -> Stored {
     for f in 1..=NAMES.len() as u32 {
         cases.extend((0..ACCEPTED).map(|_| accepted(f, &mut random)));
         let from = cases.len();
-        cases.extend((0..REFUSED).map(|_| refused(f, &mut random)));
+        let by_points = f == POLYLINE || f == FILL_POLY;
+        cases.extend((0..REFUSED).map(|i| refused(f, &mut random, by_points && i == 0)));
         for number in numbers(f) {
             assert!(cases[from..].iter().any(|case| case[WIDTH - 1] == number), "shape {f} has no case of {number}");
         }
