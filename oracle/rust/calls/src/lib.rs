@@ -104,6 +104,9 @@ pub fn fault(left: &Left, expected: &Expected, px: &[u32], scratch: &[u32]) -> O
     }
 }
 
+/// Runs of so many cases or more print how often each number was returned.
+pub const TOLD: u64 = 100_000;
+
 /// How often each number was returned.
 #[derive(Default)]
 pub struct Numbers([u64; 14]);
@@ -113,9 +116,9 @@ impl Numbers {
         self.0[number as usize] += 1;
     }
 
-    /// Prints them, and answers those of a list that came less often than they should.
-    pub fn report(&self, wanted: &[u32], least: u64) -> Vec<u32> {
-        for (number, times) in self.0.iter().enumerate().filter(|(_, times)| **times > 0) {
+    /// Prints them where `told`, and answers those of a list that came less often than they should.
+    pub fn report(&self, wanted: &[u32], least: u64, told: bool) -> Vec<u32> {
+        for (number, times) in self.0.iter().enumerate().filter(|(_, times)| told && **times > 0) {
             println!("number {number:>2} {times:>9} times");
         }
         wanted.iter().copied().filter(|number| self.0[*number as usize] < least).collect()

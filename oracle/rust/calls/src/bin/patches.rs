@@ -2,7 +2,7 @@
 //! After each call every pixel must be that of the sheet accepted last, painted afresh. Exit status 1 where anything differs, or where a
 //! number of document 01 or a way of altering a sheet comes too seldom.
 use answers::random::{Random, SEED};
-use calls::{dirty, enough, fault, Memory, Numbers};
+use calls::{dirty, enough, fault, Memory, Numbers, TOLD};
 use sheets::{
     change::{self, APART, PX, SCRATCH, WAYS},
     fixed, make, paint, patch, Made, Sheet,
@@ -142,21 +142,24 @@ fn main() {
     }
     let (calls, began) = (number(0), Instant::now());
     run.examples();
-    let (mut lists, mut told) = (0, 0);
+    let (mut lists, mut hundreds) = (0, 0);
     while run.calls < calls {
         run.list(lists, calls - run.calls);
         lists += 1;
-        if run.calls / 100_000 > told {
-            told = run.calls / 100_000;
+        if run.calls / 100_000 > hundreds {
+            hundreds = run.calls / 100_000;
             println!("{:>9} calls in {lists} lists, {} differences, {:.1} s", run.calls, run.differ, began.elapsed().as_secs_f64());
         }
     }
-    for (way, name) in WAYS.iter().enumerate() {
+    let told = calls >= TOLD;
+    for (way, name) in WAYS.iter().enumerate().filter(|_| told) {
         println!("{name:18} {:>9} accepted, {:>9} refused", run.accepted[way], run.refused[way]);
     }
     let least = calls / 2000;
-    let seldom = run.numbers.report(&[1, 2, 3, 4, 5, 6, 7, 8, 9, 10, 13], least);
-    println!("accepted with an empty box {} times", run.empty);
+    let seldom = run.numbers.report(&[1, 2, 3, 4, 5, 6, 7, 8, 9, 10, 13], least, told);
+    if told {
+        println!("accepted with an empty box {} times", run.empty);
+    }
     println!("patches: {} calls in {lists} lists, each after a painting, {} differences", run.calls, run.differ);
     if !seldom.is_empty() {
         println!("less than {least} times: numbers {seldom:?}");

@@ -1,7 +1,7 @@
 //! Painting random sheets, sound and damaged ones, beside the unchanged Rust: `sheets CASES`, or `sheets case N` for one case of it.
 //! Exit status 1 where anything differs, or where a number of document 01 comes too seldom.
 use answers::random::{Random, SEED};
-use calls::{dirty, enough, fault, Memory, Numbers};
+use calls::{dirty, enough, fault, Memory, Numbers, TOLD};
 use sheets::{damage::damaged, fixed, make, paint, Sheet};
 use std::{env, process::exit, time::Instant};
 
@@ -85,7 +85,7 @@ fn main() {
     }
     let cases = to - from + examples.len() as u64;
     let least = (to - from) / 300;
-    let seldom = run.numbers.report(&[1, 2, 3, 4, 5, 6, 7, 8, 9, 13], least);
+    let seldom = run.numbers.report(&[1, 2, 3, 4, 5, 6, 7, 8, 9, 13], least, to - from >= TOLD);
     println!("sheets: {cases} cases, {} pixels, {} differences", run.pixels, run.differ);
     if !seldom.is_empty() {
         println!("less than {least} times: numbers {seldom:?}");
