@@ -1,6 +1,7 @@
 # make test: the gate, then a short comparison with the unchanged Rust. make ticket: what there is to see.
-# make compare: the comparison at scale, in minutes. make shapes: of the shapes alone. make bench: speed beside the Rust.
-.PHONY: test ticket compare shapes bench
+# make compare: the comparison at scale, in minutes. make shapes, make sheets, make patches: of the shapes, of painting sheets, of
+# lists of patches alone. make bench: speed beside the Rust.
+.PHONY: test ticket compare shapes sheets patches bench
 
 test:
 	@bash tools/test
@@ -13,6 +14,12 @@ compare:
 
 shapes:
 	@bash oracle/compare shapes
+
+sheets:
+	@bash oracle/compare sheets
+
+patches:
+	@bash oracle/compare patches
 
 bench:
 	@bash oracle/bench

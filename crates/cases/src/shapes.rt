@@ -41,20 +41,20 @@ fn canvas(bytes: &[u8], at: u32) -> Canvas
     }
 }
 
-fn at_most_128(n: u32) -> usize
-    ensures { λ r. ⌜ r ≤ 128 ⌝ }
+fn at_most_130(n: u32) -> usize
+    ensures { λ r. ⌜ r ≤ 130 ⌝ }
 {
-    if n < 128 { n as usize } else { 128 }
+    if n < 130 { n as usize } else { 130 }
 }
 
-// The 128 floats from a word on.
-fn points(bytes: &[u8], at: u32) -> [f32; 128]
+// The 130 floats from a word on.
+fn points(bytes: &[u8], at: u32) -> [f32; 130]
     requires { ⌜ at < 2 ^ 30 ⌝ }
-    ensures { λ r. ⌜ 128 ≡ length r ⌝ }
+    ensures { λ r. ⌜ 130 ≡ length r ⌝ }
 {
-    let mut out = [0.0; 128];
+    let mut out = [0.0; 130];
     let mut place = at;
-    for i in 0..128 {
+    for i in 0..130 {
         out[i] = float(bytes, place);
         place += 1;
     }
@@ -126,7 +126,7 @@ fn through(
 fn joined(bytes: &[u8], at: u32, c: Canvas, px: &mut [u32], scratch: &mut [f32]) -> Done
     requires { ⌜ at < 2 ^ 27 ⌝ }
 {
-    let n = at_most_128(word(bytes, at + 16));
+    let n = at_most_130(word(bytes, at + 16));
     let space = points(bytes, at + 17);
     through(bytes, at, c, px, &space[..n], scratch)
 }
@@ -197,11 +197,13 @@ fn run(bytes: &[u8], at: u32, px: &mut [u32], scratch: &mut [f32]) -> bool
     fill(px, word(bytes, at + 30), word(bytes, at + 31));
     let number = draw(bytes, at, px, scratch);
     let clean = swept(scratch, word(bytes, at + 32) as usize);
-    clean & (number == 0) & same_words(px, bytes, at + 33)
+    let said = number == word(bytes, at + 97);
+    clean & said & same_words(px, bytes, at + 33)
 }
 
 // A case: the function, two sides, four words of clip, the paint's kind or `skip_inside`, four floats and two colours of a paint, a radius,
-// a width or blur, the count of coordinates, 12 of them, the count, base and step of the pixels, the words of scratch that are needed, 64 pixels.
+// a width or blur, the count of coordinates, 12 of them, the count, base and step of the pixels, the words of scratch that are left +0,
+// 64 pixels, and the number. Coordinates past the 12 are the words that follow.
 pub(crate) fn agrees(bytes: &[u8], at: u32) -> bool
     requires { ⌜ at < 2 ^ 27 ⌝ }
 {

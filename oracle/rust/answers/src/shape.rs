@@ -32,9 +32,12 @@ pub fn color_of(w: u32) -> Color {
 impl Call {
     /// The words before the coordinates, and those.
     pub fn words(&self, canvas: &Canvas) -> Vec<u32> {
-        let clip = canvas.clip();
+        self.words_on([canvas.w, canvas.h], canvas.clip())
+    }
+
+    pub fn words_on(&self, [w, h]: [i32; 2], clip: IRect) -> Vec<u32> {
         let mut words = vec![self.f];
-        words.extend([canvas.w, canvas.h, clip.x0, clip.y0, clip.x1, clip.y1].map(|z| z as u32));
+        words.extend([w, h, clip.x0, clip.y0, clip.x1, clip.y1].map(|z| z as u32));
         words.push(self.kind);
         words.extend(self.paint.map(f32::to_bits));
         words.extend(self.colours);
@@ -102,6 +105,84 @@ impl Call {
         }
         let (_, _, bw, bh) = self.poly_box();
         if bw * bh > 4_000_000 { 0 } else { (bw + 2) * bh + 2 }
+    }
+}
+
+/// What a call is given beside its own numbers: sides and clip of the state, and the words of px and scratch.
+#[derive(Clone)]
+pub struct Given {
+    pub sides: [i32; 2],
+    pub clip: IRect,
+    pub px: usize,
+    pub scratch: usize,
+}
+
+impl Call {
+    fn by_points(&self) -> bool {
+        self.f == POLYLINE || self.f == FILL_POLY
+    }
+
+    /// The places of the floats that the call takes: coordinates first, then radius, width and paint.
+    fn floats(&mut self) -> Vec<&mut f32> {
+        let used = [0, 2, 4, 3][self.kind as usize];
+        let mut all: Vec<&mut f32> = self.coords.iter_mut().take(if self.f == 4 || self.f == 7 { 2 } else { usize::MAX }).collect();
+        if [3, 4, 5, 7, SHADOW].contains(&self.f) {
+            all.push(&mut self.r);
+        }
+        if [1, POLYLINE, 3, 4, SHADOW].contains(&self.f) {
+            all.push(&mut self.width);
+        }
+        if [5, 6, 7, FILL_POLY].contains(&self.f) {
+            all.extend(self.paint.iter_mut().take(used));
+        }
+        all
+    }
+
+    /// The number of a call in document 01's order: 12, 8, 13, 6, 9.
+    pub fn number(&self, given: &Given) -> u32 {
+        let ([w, h], c) = (given.sides, given.clip);
+        let sides = (1..=2048).contains(&w) && (1..=2048).contains(&h);
+        if !sides || !c.is_empty() && !(c.x0 >= 0 && c.y0 >= 0 && c.x1 <= w && c.y1 <= h) {
+            12
+        } else if given.px != (w * h) as usize {
+            8
+        } else if self.by_points() && (self.coords.len() % 2 == 1 || self.coords.len() > 128) {
+            13
+        } else if self.clone().floats().iter().any(|x| !(x.abs() <= 8192.0)) {
+            6
+        } else if given.scratch < self.need() {
+            9
+        } else {
+            0
+        }
+    }
+
+    /// Makes one thing wrong that a number of document 01 names.
+    pub fn spoil(&mut self, given: &mut Given, random: &mut Random) {
+        let [w, h] = given.sides;
+        match random.below(5) {
+            0 => match random.below(3) {
+                0 => given.sides[random.below(2) as usize] = random.of(&[0, -1, 2049, i32::MIN, i32::MAX]),
+                1 => given.clip = random.of(&[IRect::new(0, 0, w + 1, h), IRect::new(0, 0, w, h + 1)]),
+                _ => given.clip = random.of(&[IRect::new(-1, 0, w, h), IRect::new(0, -1, w, h), IRect::new(0, 0, 9, 2049)]),
+            },
+            1 => given.px = random.of(&[given.px + 1, given.px.saturating_sub(1), 0]),
+            2 if self.by_points() => {
+                let n = random.of(&[1, 3, 5, 11, 129, 130]);
+                self.coords.resize(n, 1.0);
+            }
+            3 if self.coords.len() % 2 == 0 && self.coords.iter().all(|x| x.abs() <= 8192.0) && self.need() > 0 => {
+                given.scratch = random.of(&[self.need() - 1, 0]);
+            }
+            _ => {
+                let wide = random.of(&[f32::NAN, f32::INFINITY, f32::NEG_INFINITY, 8192.001, -8192.001, 8193.0, f32::MAX]);
+                let mut all = self.floats();
+                let at = random.below(all.len().max(1) as u32) as usize;
+                if let Some(x) = all.get_mut(at) {
+                    **x = wide;
+                }
+            }
+        }
     }
 }
 

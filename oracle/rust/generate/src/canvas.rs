@@ -43,5 +43,5 @@ pub fn stored() -> Stored {
     while cases.len() < 630 {
         cases.push(walk.step());
     }
-    Stored { names: &NAMES, width: WIDTH, cases }
+    Stored { first: 1, names: &NAMES, width: WIDTH, cases }
 }

@@ -117,5 +117,5 @@ pub fn stored() -> Stored {
     blends(&mut cases, &mut random);
     mixes(&mut cases, &mut random);
     hues(&mut cases, &mut random);
-    Stored { names: &NAMES, width: 8, cases: cases.0 }
+    Stored { first: 1, names: &NAMES, width: 8, cases: cases.0 }
 }

@@ -55,5 +55,5 @@ pub fn stored() -> Stored {
             add(f, core::array::from_fn(|_| if f < BOXES { float(&mut random) } else { integer(&mut random) }));
         }
     }
-    Stored { names: &NAMES, width: 13, cases }
+    Stored { first: 1, names: &NAMES, width: 13, cases }
 }

@@ -51,5 +51,5 @@ pub fn stored() -> Stored {
             add(f, words);
         }
     }
-    Stored { names: &NAMES, width: 10, cases }
+    Stored { first: 1, names: &NAMES, width: 10, cases }
 }

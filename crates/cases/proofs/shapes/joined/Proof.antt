@@ -12,8 +12,8 @@ add-word c = search needs
 word-requires : tie.Need-word-requires
 word-requires c κs = search needs
 
-at-most-128-requires : tie.Need-at-most-128-requires
-at-most-128-requires c κs = search needs
+at-most-130-requires : tie.Need-at-most-130-requires
+at-most-130-requires c κs = search needs
 
 add-points : tie.Need-add-points
 add-points c = search needs
@@ -25,7 +25,7 @@ array-share-prefix-space : tie.Need-array-share-prefix-space
 array-share-prefix-space c = search needs
 
 slice-aggregate-through : tie.Need-slice-aggregate-through
-slice-aggregate-through c = sym (length-take-le (c .before .before .before .at-most-128 .result) (c .before .before .points .result) (omega arith))
+slice-aggregate-through c = sym (length-take-le (c .before .before .before .at-most-130 .result) (c .before .before .points .result) (omega arith))
 
 through-requires : tie.Need-through-requires
 through-requires c κs = search needs
@@ -45,7 +45,7 @@ joined-spec =
     (tie.spec
     add-word
     word-requires
-    at-most-128-requires
+    at-most-130-requires
     add-points
     points-requires
     array-share-prefix-space

@@ -7,10 +7,10 @@ use Rattle.cases.proofs.shapes.points.Statement.{statement}
 use Rattle.cases.proofs.shapes.points.Tie as tie
 
 abbrev Inv-loop : tie.InvT-loop
-Inv-loop bytes at out₀ place₀ i₀ out place i = (i ≤ 128) × (place ≤ at + i) × (length out ≡ 128)
+Inv-loop bytes at out₀ place₀ i₀ out place i = (i ≤ 130) × (place ≤ at + i) × (length out ≡ 130)
 
 abbrev μ-loop : tie.MeasureT-loop
-μ-loop bytes at out₀ place₀ i₀ out place i = 128 - i
+μ-loop bytes at out₀ place₀ i₀ out place i = 130 - i
 
 loop-holds : tie.Need-loop-holds Inv-loop μ-loop
 loop-holds c = search needs

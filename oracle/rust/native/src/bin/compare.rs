@@ -5,8 +5,9 @@ use answers::{
     canvas::{Walk, WIDTH},
     color, geom, mathf, paint, pattern,
     random::{Random, SEED},
-    shape::{self, Scene},
+    shape::{self, Call, Given, Scene},
 };
+use kash::gfx::Canvas;
 use std::{env, process::exit, time::Instant};
 
 const BLOCK: usize = 4096;
@@ -213,16 +214,38 @@ fn same_shape(words: &[u32], need: usize, px: &mut [u32], after: &[u32], random:
     number == 0 && swept && px == after
 }
 
+/// A call with one thing wrong, or two: whether it is refused by its number and alters nothing. None where it is not refused.
+fn same_refusal(mut call: Call, canvas: &Canvas, random: &mut Random) -> Option<(u32, bool)> {
+    let mut given = Given { sides: [canvas.w, canvas.h], clip: canvas.clip(), px: canvas.px.len(), scratch: call.need() };
+    (0..1 + random.below(2)).for_each(|_| call.spoil(&mut given, random));
+    let number = call.number(&given);
+    if number == 0 {
+        return None;
+    }
+    let before: Vec<u32> = (0..given.px).map(|_| random.word()).collect();
+    let (mut px, mut scratch) = (before.clone(), vec![f32::NAN; given.scratch]);
+    let said = native::shape(&native::bytes(&call.words_on(given.sides, given.clip)), &mut px, &mut scratch);
+    let kept = scratch.iter().all(|x| x.to_bits() == f32::NAN.to_bits());
+    Some((number, said == number && px == before && kept))
+}
+
 /// Sequences of shapes on one canvas, every pixel compared after each call.
 fn shapes(run: &mut Run, random: &mut Random, calls: u64) {
     let (began, mut ran, mut differ) = (Instant::now(), [0; shape::NAMES.len()], [0; shape::NAMES.len()]);
     let mut taken = Taken::default();
+    let (mut refused, mut wrong) = ([0; 14], 0);
     while ran.iter().sum::<u64>() < calls {
         let mut scene = Scene::new(random);
         let mut px = scene.canvas.px.clone();
         while scene.left > 0 {
             let call = scene.next(random);
             let (words, f) = (call.words(&scene.canvas), call.f as usize - 1);
+            if random.below(8) == 0 {
+                if let Some((number, same)) = same_refusal(call.clone(), &scene.canvas, random) {
+                    refused[number as usize] += 1;
+                    wrong += !same as u64;
+                }
+            }
             taken.count(&call, scene.canvas.clip());
             call.draw(&mut scene.canvas);
             ran[f] += 1;
@@ -238,6 +261,13 @@ fn shapes(run: &mut Run, random: &mut Random, calls: u64) {
     for (f, name) in shape::NAMES.iter().enumerate() {
         run.report(name, ran[f], differ[f], began);
     }
+    for number in [6, 8, 9, 12, 13] {
+        assert!(refused[number] > 0, "no call was refused by {number}");
+        if run.whole {
+            println!("refused by {number:<17} {:>11} times", refused[number]);
+        }
+    }
+    run.report("refused shapes", refused.iter().sum(), wrong, began);
     for name in branches::NAMES {
         if run.whole {
             println!("{name:28} {:>11} times", taken.of(name));

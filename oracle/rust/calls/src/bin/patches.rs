@@ -1,0 +1,171 @@
+//! Lists of patches after an accepted painting, beside the unchanged Rust: `patches CALLS`, or `patches list N` for one list of them.
+//! After each call every pixel must be that of the sheet accepted last, painted afresh. Exit status 1 where anything differs, or where a
+//! number of document 01 or a way of altering a sheet comes too seldom.
+use answers::random::{Random, SEED};
+use calls::{dirty, enough, fault, Memory, Numbers, TOLD};
+use sheets::{
+    change::{self, APART, PX, SCRATCH, WAYS},
+    fixed, make, paint, patch, Made, Sheet,
+};
+use std::{env, process::exit, time::Instant};
+
+#[derive(Default)]
+struct Run {
+    memory: Memory,
+    numbers: Numbers,
+    accepted: [u64; WAYS.len()],
+    refused: [u64; WAYS.len()],
+    empty: u64,
+    paintings: u64,
+    calls: u64,
+    differ: u64,
+}
+
+/// What stands on the canvas: the kept sheet, the pixels that the last call left, and those of a fresh painting.
+struct Ticket {
+    kept: Made,
+    px: Vec<u32>,
+    fresh: Vec<u32>,
+}
+
+impl Run {
+    fn differs(&mut self, name: &str, what: &str, more: String) {
+        self.differ += 1;
+        if self.differ <= 3 {
+            println!("{name} differs in {what}: {more}");
+        }
+    }
+
+    fn painted(&mut self, name: &str, random: &mut Random) -> Ticket {
+        let kept = make::sheet(random, 32, 14);
+        let bytes = kept.bytes();
+        let (sheet, px) = (Sheet::read(&bytes).expect("a sound sheet"), vec![random.word(); kept.area()]);
+        let scratch = dirty(enough(sheet.need(), random), random);
+        let expected = paint(&bytes, px.len(), scratch.len());
+        let left = self.memory.call(None, &bytes, &px, &scratch, random);
+        let fresh = sheet.fresh();
+        self.paintings += 1;
+        if let Some(what) = fault(&left, &expected, &fresh, &scratch) {
+            self.differs(name, what, format!("the painting of {bytes:02x?}"));
+        }
+        Ticket { kept, px: fresh.clone(), fresh }
+    }
+
+    /// One patch. Where it is accepted, its new sheet is the kept one.
+    fn patched(&mut self, name: &str, ticket: &mut Ticket, random: &mut Random) {
+        let way = change::way(random);
+        let (old, new) = change::patch(&ticket.kept, random, way);
+        let mut px = ticket.px.clone();
+        if way >= APART {
+            px.iter_mut().for_each(|p| *p = random.word());
+        }
+        let seldom = |random: &mut Random| random.below(12) == 0;
+        if way == PX || seldom(random) {
+            px.resize(random.of(&[px.len() - 1, px.len() + 1, 0, 2 * px.len()]), 0);
+        }
+        let need = Sheet::read(&new).map_or(random.below(40) as usize, |sheet| sheet.need());
+        let short = way == SCRATCH || seldom(random);
+        let lent = if short { random.of(&[need.saturating_sub(1), need / 2, 0]) } else { enough(need, random) };
+        let scratch = dirty(lent, random);
+        let expected = patch(&old, &new, px.len(), scratch.len());
+        let fresh = expected.fresh();
+        let after = expected.pixels(&px, fresh.as_deref());
+        let left = self.memory.call(Some(&old), &new, &px, &scratch, random);
+        self.count(way, &expected.answer);
+        if let Some(what) = fault(&left, &expected, &after, &scratch) {
+            self.differs(name, what, format!("{:?} instead of {:?}\n  old {old:02x?}\n  new {new:02x?}", left.answer, expected.answer));
+        }
+        if way >= APART {
+            return;
+        }
+        if let (Some(sheet), Some(fresh)) = (&expected.sheet, fresh) {
+            ticket.kept = Made::of(sheet);
+            ticket.fresh = fresh;
+        }
+        if left.px.len() == ticket.px.len() {
+            ticket.px = left.px;
+        }
+        if ticket.px != ticket.fresh {
+            self.differs(name, "the fresh painting", format!("box {:?}\n  old {old:02x?}\n  new {new:02x?}", expected.answer));
+            ticket.px.copy_from_slice(&ticket.fresh);
+        }
+    }
+
+    fn count(&mut self, way: usize, answer: &sheets::Answer) {
+        self.calls += 1;
+        self.numbers.add(answer.number);
+        if answer.number > 0 {
+            self.refused[way] += 1;
+            return;
+        }
+        self.accepted[way] += 1;
+        self.empty += (answer.x1 == 0) as u64;
+    }
+
+    fn list(&mut self, n: u64, most: u64) {
+        let mut random = Random(SEED ^ (n + 1) << 20 ^ 1);
+        let name = format!("list {n}");
+        let mut ticket = self.painted(&name, &mut random);
+        for i in 0..(1 + random.below(50) as u64).min(most) {
+            self.patched(&format!("{name} call {}", i + 1), &mut ticket, &mut random);
+        }
+    }
+
+    /// Document 01's examples, each on pixels of its old sheet.
+    fn examples(&mut self) {
+        let mut random = Random(SEED + 9);
+        for (i, p) in fixed::patches().iter().enumerate() {
+            let mut px = Sheet::read(&p.old).map_or(vec![7; p.px], |old| old.fresh());
+            px.resize(p.px, 7);
+            let scratch = dirty(p.scratch, &mut random);
+            let expected = patch(&p.old, &p.new, p.px, p.scratch);
+            let after = expected.pixels(&px, expected.fresh().as_deref());
+            let left = self.memory.call(Some(&p.old), &p.new, &px, &scratch, &mut random);
+            self.calls += 1;
+            self.numbers.add(expected.answer.number);
+            if let Some(what) = fault(&left, &expected, &after, &scratch) {
+                self.differs(&format!("example {i}"), what, format!("{:?} instead of {:?}", left.answer, expected.answer));
+            }
+        }
+    }
+}
+
+fn main() {
+    let words: Vec<String> = env::args().skip(1).collect();
+    let number = |i: usize| words.get(i).and_then(|w| w.parse::<u64>().ok()).expect("usage: patches CALLS | patches list N");
+    fixed::check();
+    let mut run = Run::default();
+    if words.first().is_some_and(|w| w == "list") {
+        run.list(number(1), 50);
+        println!("patches: {} calls, {} differences", run.calls, run.differ);
+        exit((run.differ > 0) as i32);
+    }
+    let (calls, began) = (number(0), Instant::now());
+    run.examples();
+    let (mut lists, mut hundreds) = (0, 0);
+    while run.calls < calls {
+        run.list(lists, calls - run.calls);
+        lists += 1;
+        if run.calls / 100_000 > hundreds {
+            hundreds = run.calls / 100_000;
+            println!("{:>9} calls in {lists} lists, {} differences, {:.1} s", run.calls, run.differ, began.elapsed().as_secs_f64());
+        }
+    }
+    let told = calls >= TOLD;
+    for (way, name) in WAYS.iter().enumerate().filter(|_| told) {
+        println!("{name:18} {:>9} accepted, {:>9} refused", run.accepted[way], run.refused[way]);
+    }
+    let least = calls / 2000;
+    let seldom = run.numbers.report(&[1, 2, 3, 4, 5, 6, 7, 8, 9, 10, 13], least, told);
+    if told {
+        println!("accepted with an empty box {} times", run.empty);
+    }
+    println!("patches: {} calls in {lists} lists, each after a painting, {} differences", run.calls, run.differ);
+    if !seldom.is_empty() {
+        println!("less than {least} times: numbers {seldom:?}");
+    }
+    let unseen = (0..WAYS.len()).any(|way| run.accepted[way] + run.refused[way] == 0);
+    if run.differ > 0 || !seldom.is_empty() || unseen {
+        exit(1);
+    }
+}

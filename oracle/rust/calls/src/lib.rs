@@ -1,0 +1,126 @@
+//! The sheet calls of the crate `maldjupp`, on lent memory. A slice passes as a pointer and a length.
+pub mod lent;
+
+use answers::random::Random;
+use lent::{bytes, Lent};
+use sheets::{Answer, Expected};
+
+/// The functions as they are exported.
+pub mod raw {
+    use sheets::Answer;
+    extern "C" {
+        pub fn maldjupp_paint(sheet: *const u8, n: usize, px: *mut u32, m: usize, scratch: *mut f32, k: usize) -> Answer;
+        pub fn maldjupp_patch(
+            old: *const u8,
+            o: usize,
+            new: *const u8,
+            n: usize,
+            px: *mut u32,
+            m: usize,
+            scratch: *mut f32,
+            k: usize,
+        ) -> Answer;
+    }
+}
+
+/// Memory for one call.
+pub struct Memory {
+    old: Lent,
+    new: Lent,
+    px: Lent,
+    scratch: Lent,
+}
+
+impl Default for Memory {
+    fn default() -> Self {
+        Memory { old: Lent::new(1 << 18), new: Lent::new(1 << 18), px: Lent::new(1 << 25), scratch: Lent::new(1 << 25) }
+    }
+}
+
+/// What a call left: whether nothing was written beside what was lent, nor into a sheet.
+pub struct Left {
+    pub answer: Answer,
+    pub px: Vec<u32>,
+    pub scratch: Vec<u32>,
+    pub inside: bool,
+}
+
+fn words(bytes: &[u8]) -> Vec<u32> {
+    bytes.chunks_exact(4).map(|b| u32::from_ne_bytes([b[0], b[1], b[2], b[3]])).collect()
+}
+
+impl Memory {
+    /// Paints, or patches where there is an old sheet. Each piece of memory ends at a page that cannot be touched, or, one time in four,
+    /// begins at one.
+    pub fn call(&mut self, old: Option<&[u8]>, new: &[u8], px: &[u32], scratch: &[u32], random: &mut Random) -> Left {
+        let mut at_start = || random.below(4) == 0;
+        let given = old.unwrap_or(&[]);
+        let o = self.old.lend(given, at_start());
+        let n = self.new.lend(new, at_start());
+        let p = self.px.lend(bytes(px), at_start()) as *mut u32;
+        let s = self.scratch.lend(bytes(scratch), at_start()) as *mut f32;
+        let answer = unsafe {
+            match old {
+                None => raw::maldjupp_paint(n, new.len(), p, px.len(), s, scratch.len()),
+                Some(_) => raw::maldjupp_patch(o, given.len(), n, new.len(), p, px.len(), s, scratch.len()),
+            }
+        };
+        let (old_left, a) = self.old.back();
+        let (new_left, b) = self.new.back();
+        let (px_left, c) = self.px.back();
+        let (scratch_left, d) = self.scratch.back();
+        let inside = a && b && c && d && old_left == given && new_left == new;
+        Left { answer, px: words(px_left), scratch: words(scratch_left), inside }
+    }
+}
+
+/// Scratch as it may come: NaN of every kind, infinities, any patterns.
+pub fn dirty(n: usize, random: &mut Random) -> Vec<u32> {
+    match random.below(3) {
+        0 => vec![random.of(&[0x7fc0_0000, 0x7f80_0001, 0xffff_ffff, 0x7f80_0000, 0x8000_0000, 0x3f80_0000]); n],
+        _ => (0..n).map(|_| random.word()).collect(),
+    }
+}
+
+/// How much scratch is lent: just what is needed, or a little more.
+pub fn enough(need: usize, random: &mut Random) -> usize {
+    need + random.of(&[0, 0, 1, 2, 17])
+}
+
+/// What differs between a call and what it must do; nothing where all is as it must be.
+pub fn fault(left: &Left, expected: &Expected, px: &[u32], scratch: &[u32]) -> Option<&'static str> {
+    let swept = expected.swept;
+    let words = left.scratch.iter().zip(scratch).enumerate().all(|(i, (now, was))| *now == if i < swept { 0 } else { *was });
+    if left.answer != expected.answer {
+        Some("answer")
+    } else if left.px != px {
+        Some("pixels")
+    } else if !words {
+        Some("scratch")
+    } else if !left.inside {
+        Some("memory that was not lent for writing")
+    } else {
+        None
+    }
+}
+
+/// Runs of so many cases or more print how often each number was returned.
+pub const TOLD: u64 = 100_000;
+
+/// How often each number was returned.
+#[derive(Default)]
+pub struct Numbers([u64; 14]);
+
+impl Numbers {
+    pub fn add(&mut self, number: u32) {
+        self.0[number as usize] += 1;
+    }
+
+    /// Prints them where `told`, and answers those of a list that came less often than they should.
+    pub fn report(&self, wanted: &[u32], least: u64, told: bool) -> Vec<u32> {
+        for (number, times) in self.0.iter().enumerate().filter(|(_, times)| told && **times > 0) {
+            println!("number {number:>2} {times:>9} times");
+        }
+        wanted.iter().copied().filter(|number| self.0[*number as usize] < least).collect()
+    }
+}

@@ -1,0 +1,174 @@
+//! Patches: ways in which a new sheet differs from the one that is kept.
+use crate::{
+    damage::damaged,
+    item::{floats, paint_at},
+    make::{any_shape, pop, push, shape},
+    Item, Made, MOST_ITEMS,
+};
+use answers::random::Random;
+use kash::geom::IRect;
+
+/// The ways, in the order of `WAYS`.
+pub const WAYS: [&str; 15] = [
+    "moved", "recoloured", "resized", "a bit altered", "another shape", "no difference", "two items", "header", "a clip", "count",
+    "damaged new sheet", "px length", "scratch length", "damaged old sheet", "another old sheet",
+];
+const MOVED: usize = 0;
+const RECOLOURED: usize = 1;
+const RESIZED: usize = 2;
+const A_BIT: usize = 3;
+const ANOTHER: usize = 4;
+const SAME: usize = 5;
+const TWO: usize = 6;
+const HEADER: usize = 7;
+const CLIP: usize = 8;
+const COUNT: usize = 9;
+pub const DAMAGED_NEW: usize = 10;
+pub const PX: usize = 11;
+pub const SCRATCH: usize = 12;
+/// From here on the old sheet is not the kept one, so the call is none of the list's.
+pub const APART: usize = 13;
+pub const DAMAGED_OLD: usize = 13;
+
+fn put(b: &mut [u8], at: usize, x: f32) {
+    if x.abs() <= 8192.0 {
+        b[at..at + 4].copy_from_slice(&x.to_le_bytes());
+    }
+}
+
+/// Moves a shape's own places by the same step.
+fn moved(b: &mut [u8], random: &mut Random) {
+    let step = match random.below(3) {
+        0 => [random.below(9) as f32 - 4.0, random.below(9) as f32 - 4.0],
+        1 => [random.within(-1.0, 1.0), 0.0],
+        _ => [random.within(-20.0, 20.0), random.within(-20.0, 20.0)],
+    };
+    let own: Vec<usize> = match b[0] {
+        5 => vec![4, 8, 12, 16],
+        6 => (32..b.len()).step_by(4).collect(),
+        _ => vec![4, 8],
+    };
+    for (i, at) in own.into_iter().enumerate() {
+        put(b, at, crate::float(b, at) + step[i % 2]);
+    }
+}
+
+/// Alters a byte of a colour that the shape uses.
+fn recoloured(b: &mut [u8], random: &mut Random) {
+    let at = match paint_at(b[0]) {
+        Some(at) if b[at] == 0 => at + 4,
+        Some(at) => at + random.of(&[4, 8]),
+        None => b.len() - 4,
+    };
+    let any = random.word() as u8;
+    b[at + random.below(4) as usize] = random.of(&[0, 255, any]);
+}
+
+/// Alters one float: to another size, or by a bit.
+fn resized(b: &mut [u8], random: &mut Random, by_a_bit: bool) {
+    let places = floats(b);
+    if places.is_empty() {
+        return;
+    }
+    let at = random.of(&places);
+    let x = crate::float(b, at);
+    let near = f32::from_bits(x.to_bits() ^ 1 << random.of(&[0, 0, 1, 22, 31]));
+    let other = x + random.within(-8.0, 8.0);
+    put(b, at, if by_a_bit { near } else { random.of(&[x * 2.0, x * 0.5, other, 0.0]) });
+}
+
+/// A shape, mostly one that reaches into the canvas; or a clip's push or pop.
+fn at<'a>(made: &'a mut Made, random: &mut Random, shapes: bool) -> Option<&'a mut Vec<u8>> {
+    let canvas = IRect::new(0, 0, made.w as i32, made.h as i32);
+    let mut fit: Vec<usize> = (0..made.items.len()).filter(|i| (made.items[*i][0] > 2) == shapes).collect();
+    let inside: Vec<usize> = fit.iter().copied().filter(|i| !Item::of(&made.items[*i]).reach().intersect(&canvas).is_empty()).collect();
+    if !inside.is_empty() && random.below(8) > 0 {
+        fit = inside;
+    }
+    if fit.is_empty() { None } else { Some(&mut made.items[random.of(&fit)]) }
+}
+
+fn one_shape(made: &mut Made, random: &mut Random, way: usize) {
+    let (sides, canvas) = (made.sides(), IRect::new(0, 0, made.w as i32, made.h as i32));
+    let Some(b) = at(made, random, true) else { return };
+    let lost = Item::of(b).reach().intersect(&canvas).is_empty() && random.below(4) > 0;
+    match if lost { ANOTHER } else { way } {
+        MOVED => moved(b, random),
+        RECOLOURED => recoloured(b, random),
+        RESIZED => resized(b, random, false),
+        A_BIT => resized(b, random, true),
+        _ => *b = shape(3 + random.below(5) as u8, random, sides, 64),
+    }
+}
+
+fn clip(made: &mut Made, random: &mut Random) {
+    let sides = made.sides();
+    let (shapes, other) = (random.below(3) == 0, random.below(3));
+    let Some(b) = at(made, random, shapes) else { return };
+    *b = match other {
+        0 => push(random, sides),
+        1 => pop(),
+        _ => any_shape(random, sides, 6),
+    };
+}
+
+/// The new sheet that a patch gives, altered in a way.
+pub fn changed(kept: &Made, random: &mut Random, way: usize) -> Made {
+    let mut made = kept.clone();
+    match way {
+        MOVED..=ANOTHER => one_shape(&mut made, random, way),
+        SAME => (),
+        TWO => {
+            for _ in 0..2 {
+                let way = random.of(&[MOVED, RECOLOURED, RESIZED, ANOTHER]);
+                one_shape(&mut made, random, way);
+            }
+        }
+        HEADER => match random.below(4) {
+            0 => made.w = 1 + random.below(40) as u16,
+            1 => made.h = 1 + random.below(40) as u16,
+            _ => made.ground[random.below(3) as usize] ^= 1 << random.below(8),
+        },
+        CLIP => clip(&mut made, random),
+        COUNT => {
+            let n = made.items.len() as u32;
+            if n > 0 && random.below(2) == 0 {
+                made.items.remove(random.below(n) as usize);
+            } else if made.items.len() < MOST_ITEMS {
+                made.items.insert(random.below(n + 1) as usize, any_shape(random, kept.sides(), 6));
+            }
+        }
+        _ => {
+            if random.below(2) == 0 {
+                let way = random.of(&[MOVED, RECOLOURED, RESIZED, ANOTHER]);
+                one_shape(&mut made, random, way);
+            }
+        }
+    }
+    made
+}
+
+/// A way at random: mostly one that is accepted.
+pub fn way(random: &mut Random) -> usize {
+    match random.below(3) {
+        0 => random.below(WAYS.len() as u32) as usize,
+        _ => random.below(5) as usize,
+    }
+}
+
+/// Old and new bytes of a patch in a way.
+pub fn patch(kept: &Made, random: &mut Random, way: usize) -> (Vec<u8>, Vec<u8>) {
+    let new = changed(kept, random, way);
+    let old_bytes = match way {
+        DAMAGED_OLD => damaged(kept.clone(), random),
+        APART.. => {
+            let mut old = new.clone();
+            one_shape(&mut old, random, ANOTHER);
+            old.bytes()
+        }
+        _ => kept.bytes(),
+    };
+    let spoilt = way == DAMAGED_NEW || way >= APART && random.below(4) == 0;
+    let new_bytes = if spoilt { damaged(new, random) } else { new.bytes() };
+    (old_bytes, new_bytes)
+}

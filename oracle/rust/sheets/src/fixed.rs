@@ -1,0 +1,152 @@
+//! The sheets and patches that document 01 gives as examples, and the largest of their kinds.
+use crate::{
+    make::{bytes, pop},
+    Made, LONGEST,
+};
+
+/// A painting: sheet, px and scratch words lent, and the number and item that document 01 gives.
+pub struct Painting {
+    pub name: &'static str,
+    pub sheet: Vec<u8>,
+    pub px: usize,
+    pub scratch: usize,
+    pub number: u32,
+    pub item: u32,
+}
+
+fn solid(rgba: [u8; 4]) -> Vec<u8> {
+    [&[0; 4], &rgba[..], &[0; 20]].concat()
+}
+
+pub const RED: [u8; 4] = [255, 0, 0, 255];
+
+pub fn fill(x: f32, y: f32, w: f32, h: f32, rgba: [u8; 4]) -> Vec<u8> {
+    [bytes([3, 0, 0, 0], &[x, y, w, h, 0.0]), solid(rgba)].concat()
+}
+
+pub fn push(x: f32, y: f32, w: f32, h: f32) -> Vec<u8> {
+    bytes([1, 0, 0, 0], &[x, y, w, h])
+}
+
+pub fn polygon(points: &[f32], rgba: [u8; 4]) -> Vec<u8> {
+    let [low, high] = (points.len() as u16 / 2).to_le_bytes();
+    [vec![6, 0, low, high], solid(rgba), bytes([0; 4], points)[4..].to_vec()].concat()
+}
+
+pub fn made(w: u16, h: u16, items: Vec<Vec<u8>>) -> Made {
+    Made { w, h, ground: [0; 3], items }
+}
+
+/// Document 01's sheet of `paintsheet`, its fill at column x.
+pub fn red(x: f32) -> Vec<u8> {
+    made(4, 1, vec![fill(x, 0.0, 1.0, 1.0, RED)]).bytes()
+}
+
+fn with(mut sheet: Vec<u8>, at: usize, value: u8) -> Vec<u8> {
+    sheet[at] = value;
+    sheet
+}
+
+/// A square of 2 as a polygon.
+pub fn square() -> Vec<u8> {
+    polygon(&[0.0, 0.0, 2.0, 0.0, 2.0, 2.0, 0.0, 2.0], RED)
+}
+
+pub fn paintings() -> Vec<Painting> {
+    let mut all = vec![];
+    let mut add = |name, sheet: Vec<u8>, px, scratch, number, item| all.push(Painting { name, sheet, px, scratch, number, item });
+    let white = [255; 4];
+    add("red", red(0.0), 4, 0, 0, 0);
+    add("half_covered", made(2, 1, vec![fill(0.5, 0.0, 1.0, 1.0, white)]).bytes(), 2, 0, 0, 0);
+    add("empty", made(1, 1, vec![]).bytes(), 1, 0, 0, 0);
+    add("eleven_bytes", red(0.0)[..11].to_vec(), 4, 0, 1, 0);
+    add("no_bytes", vec![], 0, 0, 1, 0);
+    add("no_width", with(red(0.0), 0, 0), 4, 0, 2, 0);
+    add("first_offset_17", with(red(0.0), 12, 17), 4, 0, 3, 0);
+    add("kind_9", with(red(0.0), 16, 9), 4, 0, 4, 1);
+    add("byte_3", with(red(0.0), 19, 1), 4, 0, 5, 1);
+    add("x_8193", made(4, 1, vec![pop(), fill(8193.0, 0.0, 1.0, 1.0, RED)]).bytes(), 4, 0, 6, 2);
+    add("push_16", made(4, 1, vec![push(0.0, 0.0, 4.0, 1.0); 16]).bytes(), 4, 0, 0, 0);
+    add("push_17", made(4, 1, vec![push(0.0, 0.0, 4.0, 1.0); 17]).bytes(), 4, 0, 7, 17);
+    add("px_3", red(0.0), 3, 0, 8, 0);
+    add("square_unlent", made(4, 4, vec![square()]).bytes(), 16, 0, 9, 0);
+    add("square", made(4, 4, vec![square()]).bytes(), 16, 26, 0, 0);
+    add("points_64", made(4, 1, vec![polygon(&[0.5; 128], RED)]).bytes(), 4, 17, 0, 0);
+    add("points_65", made(4, 1, vec![polygon(&[0.5; 130], RED)]).bytes(), 4, 17, 13, 1);
+    let triangle = |x: f32| made(4, 4, vec![polygon(&[-1994.0, 0.0, x, 0.0, x, 1998.0], RED)]).bytes();
+    add("cells_4000000", triangle(4.0), 16, 4_004_002, 0, 0);
+    add("cells_4000000_short", triangle(4.0), 16, 4_004_001, 9, 0);
+    add("cells_4002000", triangle(4.5), 16, 0, 0, 0);
+    // A canvas of 2,048 a side; the longest sheet, one byte more, and the most items.
+    let far = fill(-8192.0, -8192.0, 8192.0 * 2.0 - 8192.0, 8192.0, white);
+    let round = [bytes([3, 0, 0, 0], &[1.5, 2.5, 2040.25, 2039.75, 700.0]), solid([9, 200, 30, 128])].concat();
+    add("largest", made(2048, 2048, vec![far, round, square()]).bytes(), 2048 * 2048, 26, 0, 0);
+    let mut items = vec![polygon(&[0.5; 128], RED); 108];
+    items.push(polygon(&[], RED));
+    items.extend(vec![pop(); 96]);
+    let long = made(4, 1, items).bytes();
+    assert_eq!(long.len(), LONGEST);
+    let pops = |n: usize| made(4, 1, vec![pop(); n]).bytes();
+    add("long", long.clone(), 4, 100, 0, 0);
+    add("too_long", [long, vec![0]].concat(), 4, 100, 1, 0);
+    add("items_1024", pops(1024), 4, 0, 0, 0);
+    add("items_1025", pops(1025), 4, 0, 2, 0);
+    all
+}
+
+/// A patch: old and new sheet, px and scratch words lent, number, item and box.
+pub struct Patch {
+    pub old: Vec<u8>,
+    pub new: Vec<u8>,
+    pub px: usize,
+    pub scratch: usize,
+    pub number: u32,
+    pub item: u32,
+    pub area: [i32; 4],
+}
+
+pub fn patches() -> Vec<Patch> {
+    let mut all = vec![];
+    let mut add = |old: Vec<u8>, new: Vec<u8>, px, scratch, number, item, area| all.push(Patch { old, new, px, scratch, number, item, area });
+    let two = |a: f32, b: f32| made(4, 1, vec![fill(a, 0.0, 1.0, 1.0, RED), fill(b, 0.0, 1.0, 1.0, RED)]).bytes();
+    let clipped = |x: f32| made(4, 1, vec![push(x, 0.0, 2.0, 1.0), fill(0.0, 0.0, 4.0, 1.0, RED)]).bytes();
+    let squared = |x: f32| made(4, 4, vec![square(), fill(x, 0.0, 1.0, 1.0, RED)]).bytes();
+    add(red(0.0), red(2.0), 4, 0, 0, 0, [0, 0, 3, 1]);
+    add(red(0.0), red(0.0), 4, 0, 0, 0, [0; 4]);
+    add(red(-9.0), red(9.0), 4, 0, 0, 0, [0; 4]);
+    add(red(-9.0), red(3.0), 4, 0, 0, 0, [3, 0, 4, 1]);
+    add(two(0.0, 1.0), two(2.0, 3.0), 4, 0, 10, 0, [0; 4]);
+    add(red(0.0), two(0.0, 1.0), 4, 0, 10, 0, [0; 4]);
+    add(clipped(0.0), clipped(1.0), 4, 0, 10, 0, [0; 4]);
+    add(red(0.0), with(red(0.0), 4, 1), 4, 0, 10, 0, [0; 4]);
+    add(red(0.0), with(red(0.0), 0, 5), 4, 0, 10, 0, [0; 4]);
+    add(with(red(0.0), 16, 9), red(0.0)[..11].to_vec(), 4, 0, 4, 1, [0; 4]);
+    add(red(0.0), red(0.0)[..11].to_vec(), 4, 0, 1, 0, [0; 4]);
+    add(red(0.0), red(8193.0), 3, 0, 6, 1, [0; 4]);
+    add(red(0.0), red(1.0), 3, 0, 8, 0, [0; 4]);
+    add(squared(0.0), squared(2.0), 16, 25, 9, 0, [0; 4]);
+    add(squared(0.0), squared(2.0), 16, 26, 0, 0, [0, 0, 3, 1]);
+    add(squared(0.0), squared(0.0), 16, 25, 9, 0, [0; 4]);
+    add(squared(0.0), squared(0.0), 16, 30, 0, 0, [0; 4]);
+    let triangle = |x: f32| made(4, 4, vec![polygon(&[-1994.0, 1.0, x, 1.0, x, 1999.0], RED)]).bytes();
+    add(triangle(4.5), triangle(5.0), 16, 0, 0, 0, [0; 4]);
+    all
+}
+
+/// Holds the reading to document 01's examples before anything is compared with it.
+pub fn check() {
+    for p in paintings() {
+        let a = crate::paint(&p.sheet, p.px, p.scratch).answer;
+        assert_eq!((a.number, a.item), (p.number, p.item), "{}", p.name);
+    }
+    for (i, p) in patches().iter().enumerate() {
+        let a = crate::patch(&p.old, &p.new, p.px, p.scratch).answer;
+        assert_eq!((a.number, a.item, [a.x0, a.y0, a.x1, a.y1]), (p.number, p.item, p.area), "patch {i}");
+    }
+    let left = |expected: crate::Expected, before: &[u32]| expected.pixels(before, expected.fresh().as_deref());
+    let painted = |p: &Painting| left(crate::paint(&p.sheet, p.px, p.scratch), &vec![0xffff_ffff; p.px]);
+    assert_eq!(painted(&paintings()[0]), [0x00ff_0000, 0, 0, 0]);
+    assert_eq!(painted(&paintings()[1]), [0x0080_8080; 2]);
+    let patched = left(crate::patch(&red(0.0), &red(2.0), 4, 0), &[0x00ff_0000, 0, 0, 0]);
+    assert_eq!(patched, [0, 0, 0x00ff_0000, 0]);
+}

@@ -1,0 +1,89 @@
+//! A sheet's check in document 01's order, and its painting by the unchanged Rust.
+use crate::{half, item, Item, LONGEST, MOST_ITEMS, MOST_SAVED, MOST_SIDE, SHORTEST};
+use kash::{color::Color, gfx::Canvas};
+
+/// A sheet that was read: sides, ground, and each item with its bytes.
+#[derive(Clone, Debug)]
+pub struct Sheet {
+    pub w: usize,
+    pub h: usize,
+    pub ground: [u8; 3],
+    pub items: Vec<(Item, Vec<u8>)>,
+}
+
+/// A number, and the item beside it or 0.
+#[derive(Clone, Copy, Debug, PartialEq)]
+pub struct Fault {
+    pub number: u32,
+    pub item: u32,
+}
+
+/// Where the items lie, if the pairs run as they must.
+fn places(bytes: &[u8], n: usize) -> Option<Vec<(usize, usize)>> {
+    let mut next = 12 + 4 * n;
+    if bytes.len() < next {
+        return None;
+    }
+    let mut places = vec![];
+    for i in 0..n {
+        let (offset, length) = (half(bytes, 12 + 4 * i), half(bytes, 14 + 4 * i));
+        if offset != next {
+            return None;
+        }
+        places.push((offset, offset + length));
+        next = offset + length;
+    }
+    if next == bytes.len() { Some(places) } else { None }
+}
+
+impl Sheet {
+    /// The sheet of any bytes, or its number: 1, 2, 3, then for each item 4, 13, 5, 6, 7.
+    pub fn read(bytes: &[u8]) -> Result<Sheet, Fault> {
+        let whole = |number| Err(Fault { number, item: 0 });
+        if bytes.len() < SHORTEST || bytes.len() > LONGEST {
+            return whole(1);
+        }
+        let (w, h, n) = (half(bytes, 0), half(bytes, 2), half(bytes, 8));
+        let sides = (1..=MOST_SIDE).contains(&w) && (1..=MOST_SIDE).contains(&h);
+        if !sides || n > MOST_ITEMS || bytes[7] != 0 || bytes[10] != 0 || bytes[11] != 0 {
+            return whole(2);
+        }
+        let Some(places) = places(bytes, n) else { return whole(3) };
+        let mut sheet = Sheet { w, h, ground: [bytes[4], bytes[5], bytes[6]], items: vec![] };
+        let mut saved = 0;
+        for (i, (from, to)) in places.into_iter().enumerate() {
+            let own = &bytes[from..to];
+            let mut number = item::number(own);
+            if number == 0 && own[0] == 1 {
+                if saved == MOST_SAVED {
+                    number = 7;
+                }
+                saved += 1;
+            }
+            if number > 0 {
+                return Err(Fault { number, item: i as u32 + 1 });
+            }
+            if own[0] == 2 && saved > 0 {
+                saved -= 1;
+            }
+            sheet.items.push((Item::of(own), own.to_vec()));
+        }
+        Ok(sheet)
+    }
+
+    /// The scratch words that painting it, or patching to it, needs.
+    pub fn need(&self) -> usize {
+        self.items.iter().map(|(item, _)| item.need()).max().unwrap_or(0)
+    }
+
+    /// The pixels of a fresh painting.
+    pub fn fresh(&self) -> Vec<u32> {
+        let mut canvas = Canvas::new(self.w as i32, self.h as i32);
+        let [r, g, b] = self.ground;
+        canvas.clear(Color::rgb(r, g, b));
+        for (item, _) in &self.items {
+            item.draw(&mut canvas);
+        }
+        canvas.px
+    }
+}
