@@ -3,15 +3,16 @@ use Prim.Native.Nat.{ℕ, zero, suc, _+_, _<_}
 use mathlib.Core.Path.{_≡_, refl, sym, ap, _∙_}
 use mathlib.Core.Bool.{Bool, true, false, cond, true≢false, false≢true}
 use mathlib.Core.List.{List, [], _∷_}
+use native.Mathlib.Nat.{zero-add}
 use native.Mathlib.Numerals.{add-one}
 use native.Mathlib.Omega.{arith}
 use lib.Dec.{eqb, leb}
 use lib.ListN.{length}
 use borrow.Author.Tests.{ne-eqb, lt-leb}
-use Rattle.geom.specs.Box.{hull}
+use Rattle.geom.specs.Box.{noBox, hull}
 use Rattle.geom.specs.declared.IRect.{IRect}
 use Rattle.sheet.specs.Kinds.{kindAt}
-use Rattle.sheet.specs.Check.{bytesAt}
+use Rattle.sheet.specs.Check.{countOf, bytesAt}
 use Rattle.redraw.specs.Drawing as drawing
 use Rattle.redraw.specs.Drawing.{push, pop, shape}
 use Rattle.redraw.specs.Sheet.{Change, other, shapes, withPair, bothShapes, change, few, reaches}
@@ -19,7 +20,7 @@ use Rattle.items.specs.Items.{readRect, readFill, readStroke, readLine, readPol
 use Rattle.items.specs.Format.{reachOf, drawnAs, itemIn, itemsFrom, sameItem}
 use Rattle.items.specs.declared.Item.{Item}
 use Rattle.items.specs.declared.Item.the-variants.{Push, Pop, Fill, Stroke, Line, Poly, Shadow, Unknown}
-use Rattle.compare.specs.Compare.{changeFrom, changeNumber, changeBox, told, refused, changedBy, isShape, sameAt, firstFrom}
+use Rattle.compare.specs.Compare.{changeFrom, found, changeNumber, changeBox, told, refused, changedBy, isShape, sameAt, firstFrom}
 
 -- ---- a shape, by its kind
 
@@ -165,3 +166,29 @@ module _ (old new : List ℕ) where
           → cond t (changeFrom old new left (k + 1)) (bothShapes (itemIn (bytesAt old k)) (itemIn (bytesAt new k)) (changeFrom old new left (k + 1))) ≡ At d rest
       go true f later = later f (omega arith)
       go false f later = let l : left ≡ rest = omega arith in rw (sym f, l)
+
+  -- a pair of items that differs, and another after it
+  pub later : (frame : IRect) (i j : drawing.Item (List ℕ)) (left k d rest : ℕ) → firstFrom old new left k ≡ d → d + suc rest ≡ k + left
+      → changedBy frame (bothShapes i j (changeFrom old new left k)) ≡ refused
+  later frame i j left k d rest f e =
+      ap (λ (c : Change (List ℕ)). changedBy frame (bothShapes i j c)) (first-some left k d rest f e)
+      ∙ twice frame i j (itemIn (bytesAt old d)) (itemIn (bytesAt new d)) (changeFrom old new rest (d + 1))
+
+  -- ---- whole sheets
+
+  pub counts-differ : (frame : IRect) → (countOf old ≡ countOf new → ⊥) → changedBy frame (found old new) ≡ refused
+  unfolding changeNumber changeBox
+  counts-differ frame h = ap (changedBy frame) (uneven (countOf old) (countOf new) 0 h)
+
+  module _ (n : ℕ) (p : n ≡ countOf old) (q : n ≡ countOf new) where
+    even : found old new ≡ changeFrom old new n 0
+    even =
+        ap (λ (m : ℕ). change sameItem (itemsFrom old m 0) (itemsFrom new (countOf new) 0)) (sym p)
+        ∙ ap (λ (m : ℕ). change sameItem (itemsFrom old n 0) (itemsFrom new m 0)) (sym q)
+
+    pub found-none : (frame : IRect) → firstFrom old new n 0 ≡ n → changedBy frame (found old new) ≡ told 0 noBox
+    unfolding hull
+    found-none frame f = ap (changedBy frame) (even ∙ first-none n 0 (f ∙ sym (zero-add n))) ∙ unchanged frame
+
+    pub found-some : (d rest : ℕ) → firstFrom old new n 0 ≡ d → d + suc rest ≡ n → found old new ≡ At d rest
+    found-some d rest f e = even ∙ first-some n 0 d rest f (e ∙ sym (zero-add n))

@@ -34,9 +34,8 @@ returns c =
     let c3 = c .before .before .before in
     let c5 = c3 .before .before in
     let canvas = c5 .before .before .frame .ensures in
-    let a = c5 .intersect .ensures ∙ rw (canvas, c5 .before .reach-at .ensures) in
-    let b = c3 .intersect2 .ensures ∙ rw (canvas, c3 .before .reach-at2 .ensures) in
-    c .join2 .ensures ∙ rw (a, c .before .join .ensures, b, c .before .before .new .ensures)
+    c .join2 .ensures
+    ∙ rw (c5 .intersect .ensures, c .before .join .ensures, c3 .intersect2 .ensures, canvas, c5 .before .reach-at .ensures, c3 .before .reach-at2 .ensures, c .before .before .new .ensures)
 
 pub area-at-spec : {M : Type 1} → statement M
 area-at-spec =
