@@ -6,7 +6,7 @@ use mathlib.Core.List.{List, [], _∷_}
 use native.Mathlib.Nat.{zero-add}
 use native.Mathlib.Numerals.{add-one}
 use native.Mathlib.Omega.{arith}
-use lib.Dec.{eqb, leb}
+use lib.Dec.{eqb}
 use lib.ListN.{length}
 use borrow.Author.Tests.{ne-eqb, lt-leb}
 use Rattle.geom.specs.Box.{noBox, hull}
@@ -15,9 +15,9 @@ use Rattle.sheet.specs.Kinds.{kindAt}
 use Rattle.sheet.specs.Check.{countOf, bytesAt}
 use Rattle.redraw.specs.Drawing as drawing
 use Rattle.redraw.specs.Drawing.{push, pop, shape}
-use Rattle.redraw.specs.Sheet.{Change, other, shapes, withPair, bothShapes, change, few, reaches}
-use Rattle.items.specs.Items.{readRect, readFill, readStroke, readLine, readPoly, readShadow, readItem, itemOf}
-use Rattle.items.specs.Format.{reachOf, drawnAs, itemIn, itemsFrom, sameItem}
+use Rattle.redraw.specs.Sheet.{Change, other, shapes, withPair, bothShapes, change, few, reaches, Sheet, refuses, canvas, lent, tooMany, patchBy}
+use Rattle.items.specs.Items.{readFill, readStroke, readLine, readPoly, readShadow, readItem, itemOf}
+use Rattle.items.specs.Format.{reachOf, kind, format, drawnAs, itemIn, itemsFrom, sameItem}
 use Rattle.items.specs.declared.Item.{Item}
 use Rattle.items.specs.declared.Item.the-variants.{Push, Pop, Fill, Stroke, Line, Poly, Shadow, Unknown}
 use Rattle.compare.specs.Compare.{changeFrom, found, changeNumber, changeBox, told, refused, changedBy, isShape, sameAt, firstFrom}
@@ -102,6 +102,20 @@ module _ (frame : IRect) where
       → changedBy frame (bothShapes (itemIn a) (itemIn b) c) ≡ told 0 (hull frame (reachOf a (itemOf a) ∷ reachOf b (itemOf b) ∷ []))
   unfolding bothShapes withPair changeNumber changeBox few reaches
   once a b c p q e = rw (shape-own a (itemOf a) p, shape-own b (itemOf b) q, e)
+
+-- a patch by a difference: refused by 10, or drawn in the box
+pub patch-by : (c : Change (List ℕ)) (s : Sheet (List ℕ)) (pxLen scratchLen : ℕ)
+    → patchBy format c s pxLen scratchLen
+    ≡ cond (eqb (changeNumber c) 0) (lent format s pxLen scratchLen (changeBox (canvas s) c)) (refuses 10 0)
+unfolding patchBy tooMany changeNumber changeBox
+patch-by other s pxLen scratchLen = refl
+patch-by (shapes l) s pxLen scratchLen = go (few l) (hull (canvas s) (reaches (kind .reach) l))
+  where
+    go : (t : Bool) (box : IRect)
+        → cond t (lent format s pxLen scratchLen box) (refuses 10 0)
+        ≡ cond (eqb (cond t 0 10) 0) (lent format s pxLen scratchLen (cond t box noBox)) (refuses 10 0)
+    go true box = refl
+    go false box = refl
 
 -- ---- runs of items
 

@@ -1,5 +1,5 @@
 -- `compare::area_at` meets its contract. Assumes nothing.
-use mathlib.Core.Path.{_≡_, sym, ap, _∙_}
+use mathlib.Core.Path.{_∙_}
 use Rattle.geom.specs.Box.{noBox, hull}
 use Rattle.compare.proofs.area_at.Statement.{statement}
 use Rattle.compare.proofs.area_at.Tie as tie

@@ -1,5 +1,5 @@
 -- `compare::join` meets its contract. Assumes nothing.
-use mathlib.Core.Path.{_≡_, sym, ap, _∙_}
+use mathlib.Core.Path.{sym, _∙_}
 use Rattle.geom.specs.Box as Box
 use Rattle.compare.proofs.join.Statement.{statement}
 use Rattle.compare.proofs.join.Tie as tie

@@ -1,5 +1,5 @@
 -- `compare::reach_at` meets its contract. Assumes nothing.
-use mathlib.Core.Path.{_≡_, sym, ap, _∙_}
+use mathlib.Core.Path.{_∙_}
 use native.Mathlib.Omega.{arith}
 use Rattle.compare.proofs.reach_at.Statement.{statement}
 use Rattle.compare.proofs.reach_at.Tie as tie

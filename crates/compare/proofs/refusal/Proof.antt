@@ -1,5 +1,5 @@
 -- `compare::refusal` meets its contract. Assumes nothing.
-use mathlib.Core.Path.{_≡_, sym, ap, _∙_}
+use mathlib.Core.Path.{ap}
 use Rattle.geom.specs.Box.{noBox}
 use Rattle.compare.specs.Compare.{told}
 use Rattle.compare.proofs.refusal.Statement.{statement}

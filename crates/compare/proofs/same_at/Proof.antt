@@ -1,5 +1,5 @@
 -- `compare::same_at` meets its contract. Assumes nothing.
-use mathlib.Core.Path.{_≡_, sym, ap, _∙_}
+use mathlib.Core.Path.{sym, _∙_}
 use native.Mathlib.Omega.{arith}
 use Rattle.sheet.specs.Check.{bytesAt}
 use Rattle.items.proofs.Lawful.{same-in}

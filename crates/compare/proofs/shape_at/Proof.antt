@@ -1,5 +1,4 @@
 -- `compare::shape_at` meets its contract. Assumes nothing.
-use mathlib.Core.Path.{_≡_, sym, ap, _∙_}
 use native.Mathlib.Omega.{arith}
 use Rattle.compare.proofs.Changes.{no-push, no-pop, a-shape}
 use Rattle.compare.proofs.shape_at.Statement.{statement}
