@@ -30,7 +30,7 @@ join-requires-2 c κs = tt
 
 returns : tie.Need-returns
 unfolding noBox hull
-returns c = 
+returns c =
     let c3 = c .before .before .before in
     let c5 = c3 .before .before in
     let canvas = c5 .before .before .frame .ensures in

@@ -18,7 +18,7 @@ max-i-requires-2 c κs = tt
 
 returns : tie.Need-returns
 unfolding around
-returns c = 
+returns c =
     let c3 = c .before .before .before in
     let c6 = c3 .before .before .before in
     let c9 = c6 .before .before .before in

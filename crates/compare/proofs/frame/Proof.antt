@@ -24,7 +24,7 @@ new-requires c κs = tt
 
 returns : tie.Need-returns
 unfolding canvas
-returns c = 
+returns c =
     let w = c .before .before .u16-at in
     let h = c .before .u16-at2 in
     c .new .ensures ∙ rw (kept (pos (w .result)) (omega (arith, w .ensures .1)), kept (pos (h .result)) (omega (arith, h .ensures .1)), w .ensures .0, h .ensures .0)

@@ -36,7 +36,7 @@ same-bytes-requires c κs = tt
 
 returns : tie.Need-returns
 unfolding sameAt
-returns c = 
+returns c =
     let a = c .before .before .before .before .before .before .before .args in
     c .same-bytes .ensures ∙ rw (c .before .before .before .before .part-at .ensures .bytes, c .before .before .before .part-at2 .ensures .bytes) (sym (same-in (bytesAt (a .old .now) (a .k)) (bytesAt (a .new .now) (a .k))))
 

@@ -24,7 +24,7 @@ same-at-requires : tie.Need-same-at-requires Inv-loop μ-loop
 same-at-requires c κs = tt
 
 returns : tie.Need-returns Inv-loop μ-loop
-returns c = 
+returns c =
     let a = c .before .before .before .before .before .before .args in
     let l = c .before .before .before .loop in
     (sym (first-stop (a .old .now) (a .new .now) (a .to - l .k) (l .k) (omega arith) (sym (c .before .same-at .ensures) ∙ not-true _ (c .if1 .taken))) ∙ l .inv .2, l .inv .1)
@@ -36,13 +36,13 @@ loop-less : tie.Need-loop-less Inv-loop μ-loop
 loop-less c = omega arith
 
 loop-again : tie.Need-loop-again Inv-loop μ-loop
-loop-again c = 
+loop-again c =
     let a = c .before .before .before .before .before .before .args in
     let l = c .before .before .before .loop in
     (omega arith, omega arith, sym (first-turn (a .old .now) (a .new .now) (a .to - l .k) (a .to - (l .k + 1)) (l .k) (omega arith) (sym (c .before .same-at .ensures) ∙ not-false _ (c .if1 .left))) ∙ l .inv .2)
 
 returns-2 : tie.Need-returns-2 Inv-loop μ-loop
-returns-2 c = 
+returns-2 c =
     let a = c .before .before .before .before .args in
     let l = c .before .loop in
     let e : l .k ≡ a .to = omega arith in
