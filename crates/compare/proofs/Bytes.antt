@@ -1,0 +1,39 @@
+-- Two runs of bytes, one byte after another: lengths that differ, a turn of the loop, where it stops, and the end. Assumes nothing.
+use Prim.Native.Nat.{ℕ, suc, _+_, _<_, _≤_}
+use mathlib.Core.Path.{_≡_, refl, ap}
+use mathlib.Core.Bool.{Bool, true, false, _&&_}
+use mathlib.Core.List.{List, [], _∷_}
+use native.Mathlib.Numerals.{add-one}
+use lib.Dec.{eqb}
+use lib.ListN.{length, getD, drop, drop-of-length-le}
+use lib.Seq.{drop-cons}
+use borrow.Author.Tests.{eq-eqb, ne-eqb}
+use Rattle.items.specs.Format.{sameBytes}
+
+none : (t : Bool) → t && false ≡ false
+none true = refl
+none false = refl
+
+pub lengths-differ : (a b : List ℕ) → (length a ≡ length b → ⊥) → sameBytes a b ≡ false
+unfolding sameBytes
+lengths-differ [] [] h = absurd (h refl)
+lengths-differ [] (y ∷ b) h = refl
+lengths-differ (x ∷ a) [] h = refl
+lengths-differ (x ∷ a) (y ∷ b) h = rw (lengths-differ a b (λ e. h (ap suc e))) (none (eqb x y))
+
+module _ (a b : List ℕ) (i : ℕ) where
+  -- the two runs from the place i on
+  abbrev From : ℕ → Bool
+  From j = sameBytes (drop j a) (drop j b)
+
+  pub bytes-stop : i < length a → i < length b → (getD a i 0 ≡ getD b i 0 → ⊥) → From i ≡ false
+  unfolding sameBytes
+  bytes-stop h k e = rw (drop-cons a i 0 h, drop-cons b i 0 k, ne-eqb (getD a i 0) (getD b i 0) e)
+
+  pub bytes-turn : i < length a → i < length b → getD a i 0 ≡ getD b i 0 → From i ≡ From (i + 1)
+  unfolding sameBytes
+  bytes-turn h k e = rw (drop-cons a i 0 h, drop-cons b i 0 k, eq-eqb (getD a i 0) (getD b i 0) e, add-one)
+
+  pub bytes-done : length a ≤ i → length b ≤ i → From i ≡ true
+  unfolding sameBytes
+  bytes-done h k = rw (drop-of-length-le a h, drop-of-length-le b k)

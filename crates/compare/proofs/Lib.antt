@@ -1,0 +1,3 @@
+-- The laws of compare that belong to no one function. Assumes nothing.
+pub mod Bytes
+pub mod Changes

@@ -1,0 +1,2 @@
+-- The definitions that compare's contracts cite. Assumes nothing.
+pub mod Compare

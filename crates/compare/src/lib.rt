@@ -1,0 +1,190 @@
+// How two sheets differ: what a patch needs to know of them. Every function here takes any bytes at all.
+use geom::IRect;
+use geom::max_i;
+use geom::min_i;
+use items::ground;
+use items::part_at;
+use items::reaches::reach;
+use sheet::byte_at;
+use sheet::u16_at;
+ghost use mathlib.Core.Path.{_≡_};
+ghost use mathlib.Core.List.{[], _∷_};
+ghost use Prim.Native.Nat.{_+_, _-_, _<_, _≤_};
+ghost use Rattle.geom.specs.Box as Box;
+ghost use Rattle.geom.specs.Box.{hull};
+ghost use Rattle.sheet.specs.Check.{bytesAt};
+ghost use Rattle.redraw.specs.Sheet.{canvas, bothShapes, sameHeader};
+ghost use Rattle.items.specs.Format.{sameBytes, itemIn, sheetOf};
+ghost use Rattle.compare.specs.Compare.{isShape, sameAt, firstFrom, changeFrom, found, reachAt, refused, changedBy};
+
+// What a patch is refused with, 10 or 0, and the box that it redraws.
+pub struct Difference {
+    pub number: u32,
+    pub area: IRect,
+}
+
+// Whether two runs of bytes are the same.
+pub fn same_bytes(a: &[u8], b: &[u8]) -> bool
+    ensures { λ r. ⌜ r ≡ sameBytes (now (a .entry)) (now (b .entry)) ⌝ }
+{
+    if a.len() != b.len() {
+        return false;
+    }
+    for i in 0..a.len() {
+        if a[i] != b[i] {
+            return false;
+        }
+    }
+    true
+}
+
+// Whether the items k of two sheets are the same.
+fn same_at(old: &[u8], new: &[u8], k: u16) -> bool
+    ensures { λ r. ⌜ r ≡ sameAt (now (old .entry)) (now (new .entry)) k ⌝ }
+{
+    let p = part_at(old, k);
+    let from = p.from;
+    let to = p.to;
+    let q = part_at(new, k);
+    let start = q.from;
+    let end = q.to;
+    same_bytes(&old[from..to], &new[start..end])
+}
+
+// Whether the item k is a shape: neither a push nor a pop.
+fn shape_at(s: &[u8], k: u16) -> bool
+    ensures { λ r. ⌜ r ≡ isShape (itemIn (bytesAt (now (s .entry)) k)) ⌝ }
+{
+    let p = part_at(s, k);
+    let from = p.from;
+    let to = p.to;
+    let kind = byte_at(&s[from..to], 0);
+    match kind {
+        1 => false,
+        2 => false,
+        0 | 3..=255 => true,
+    }
+}
+
+// The first item from a place on that differs, or the place after the last one.
+fn same_from(old: &[u8], new: &[u8], from: usize, to: usize) -> usize
+    requires { ⌜ (from ≤ to) × (to < 65536) ⌝ }
+    ensures { λ r. ⌜ (r ≡ firstFrom (now (old .entry)) (now (new .entry)) (to - from) from) × (r ≤ to) ⌝ }
+{
+    for k in from..to {
+        if !same_at(old, new, k as u16) {
+            return k;
+        }
+    }
+    to
+}
+
+// The smallest box around two that are not empty.
+fn around(a: IRect, b: IRect) -> IRect
+    ensures { λ r. ⌜ r ≡ Box.around a b ⌝ }
+{
+    let x0 = min_i(a.x0, b.x0);
+    let y0 = min_i(a.y0, b.y0);
+    let x1 = max_i(a.x1, b.x1);
+    let y1 = max_i(a.y1, b.y1);
+    IRect { x0, y0, x1, y1 }
+}
+
+// The smallest box around two, an empty one counting for nothing.
+fn join(a: IRect, b: IRect) -> IRect
+    ensures { λ r. ⌜ r ≡ Box.join a b ⌝ }
+{
+    if a.is_empty() {
+        return b;
+    }
+    if b.is_empty() {
+        return a;
+    }
+    around(a, b)
+}
+
+// The canvas of a sheet.
+fn frame(s: &[u8]) -> IRect
+    ensures { λ r. ⌜ r ≡ canvas (sheetOf (now (s .entry))) ⌝ }
+{
+    let w = u16_at(s, 0);
+    let h = u16_at(s, 2);
+    IRect::new(0, 0, w as i32, h as i32)
+}
+
+// The reach of the item k.
+fn reach_at(s: &[u8], k: u16) -> IRect
+    ensures { λ r. ⌜ r ≡ reachAt (now (s .entry)) k ⌝ }
+{
+    let p = part_at(s, k);
+    let from = p.from;
+    let to = p.to;
+    reach(&s[from..to])
+}
+
+// The smallest box around the reaches of the items k, each first cut to the new canvas.
+fn area_at(old: &[u8], new: &[u8], k: u16) -> IRect
+    ensures { λ r. ⌜ r ≡ hull (canvas (sheetOf (now (new .entry)))) (reachAt (now (old .entry)) k ∷ reachAt (now (new .entry)) k ∷ []) ⌝ }
+{
+    let canvas = frame(new);
+    let a = canvas.intersect(reach_at(old, k));
+    let b = canvas.intersect(reach_at(new, k));
+    join(a, join(b, IRect::new(0, 0, 0, 0)))
+}
+
+fn refusal() -> Difference
+    ensures { λ r. ⌜ r ≡ refused ⌝ }
+{
+    Difference {
+        number: 10,
+        area: IRect::new(0, 0, 0, 0),
+    }
+}
+
+// What two sheets of n items tell whose first difference is at d.
+fn changed_at(old: &[u8], new: &[u8], d: usize, n: usize) -> Difference
+    requires { ⌜ (d < n) × (n < 65536) ⌝ }
+    ensures { λ r. ⌜ r ≡ changedBy (canvas (sheetOf (now (new .entry)))) (bothShapes (itemIn (bytesAt (now (old .entry)) d)) (itemIn (bytesAt (now (new .entry)) d)) (changeFrom (now (old .entry)) (now (new .entry)) (n - (d + 1)) (d + 1))) ⌝ }
+{
+    if !shape_at(old, d as u16) {
+        return refusal();
+    }
+    if !shape_at(new, d as u16) {
+        return refusal();
+    }
+    if same_from(old, new, d + 1, n) < n {
+        return refusal();
+    }
+    Difference {
+        number: 0,
+        area: area_at(old, new, d as u16),
+    }
+}
+
+// What two sheets tell of how they differ.
+pub fn changed(old: &[u8], new: &[u8]) -> Difference
+    ensures { λ r. ⌜ r ≡ changedBy (canvas (sheetOf (now (new .entry)))) (found (now (old .entry)) (now (new .entry))) ⌝ }
+{
+    let n = u16_at(old, 8);
+    if n != u16_at(new, 8) {
+        return refusal();
+    }
+    let d = same_from(old, new, 0, n);
+    if d == n {
+        return Difference {
+            number: 0,
+            area: IRect::new(0, 0, 0, 0),
+        };
+    }
+    changed_at(old, new, d, n)
+}
+
+// Whether two sheets agree in width, height and ground.
+pub fn same_header(old: &[u8], new: &[u8]) -> bool
+    ensures { λ r. ⌜ r ≡ sameHeader (sheetOf (now (old .entry))) (sheetOf (now (new .entry))) ⌝ }
+{
+    let wide = u16_at(old, 0) == u16_at(new, 0);
+    let high = u16_at(old, 2) == u16_at(new, 2);
+    let grounds = ground(old).pix() == ground(new).pix();
+    wide & high & grounds
+}
