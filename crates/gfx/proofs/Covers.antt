@@ -6,6 +6,7 @@
 --     outside-at, inside-at     what a test of one number gives
 -- Assumes nothing.
 use mathlib.Core.Path.{_≡_, refl, sym, ap, subst, _∙_}
+use mathlib.Core.Logic.{_⊎_, inl, inr}
 use mathlib.Core.Bool.{Bool, true, false, not, cond}
 use Prim.Native.Nat.{ℕ, zero, suc, _+_, _*_, _<_, _≤_}
 use native.Mathlib.Nat.{le-antisymm, mul-pos, zero-mul, zero-lt-suc}
@@ -44,14 +45,21 @@ abbrev z255 : Float
 z255 = fin false 255 (pos 0)
 
 -- ---- the order once more: what is not below is at most, and what lies between finite numbers is finite
-turned : (s t : Bool) (a b : ℕ) → AtMost s a t b → T (not (below s a t b)) → AtMost t b s a
-turned false false a b h n = nltb→le a b n
-turned false true a b h n = tt
-turned true false a b h n = swap (nltb→le 0 (a + b) n)
+turned : (s t : Bool) (a b : ℕ) → T (not (below s a t b)) → AtMost t b s a
+turned false false a b n = nltb→le a b n
+turned false true a b n = tt
+turned true false a b n = swap (nltb→le 0 (a + b) n)
   where
     swap : a + b ≤ 0 → b + a ≤ 0
     swap k = omega arith
-turned true true a b h n = nltb→le b a n
+turned true true a b n = nltb→le b a n
+
+fin-back : (s t : Bool) (m n : ℕ) (e d : ℤ) → T (not (lt (fin s m e) (fin t n d))) → T (le (fin t n d) (fin s m e))
+unfolding le lt eq
+fin-back s t m n e d k =
+    let a = m * up e * down d in
+    let b = n * up d * down e in
+    from-at-most t s b a (turned s t a b k)
 
 pub le-back : (x y : Float) → T (le x y) → T (not (lt x y)) → T (le y x)
 unfolding le lt eq
@@ -66,10 +74,7 @@ le-back (inf false) (fin t m e) h n = absurd h
 le-back (fin s m e) nan h n = absurd h
 le-back (fin s m e) (inf true) h n = absurd h
 le-back (fin s m e) (inf false) h n = absurd n
-le-back (fin s m e) (fin t n d) h k =
-    let a = m * up e * down d in
-    let b = n * up d * down e in
-    from-at-most t s b a (turned s t a b (at-most s t a b h) k)
+le-back (fin s m e) (fin t n d) h k = fin-back s t m n e d k
 
 pub finite-between : (a x b : Float) → T (finite a) → T (finite b) → T (le a x) → T (le x b) → T (finite x)
 unfolding le lt eq
@@ -116,6 +121,10 @@ le-of-lt : (x y : Float) → T (lt x y) → T (le x y)
 unfolding le
 le-of-lt x y t = or-l (lt x y) (eq x y) t
 
+zero-one : T (le z0 z1)
+unfolding le lt eq
+zero-one = tt
+
 -- the share of what is not above 0 is 0, and of what is not below 1 it is 1
 pub share-low : (v : Float) → T (le v z0) → T (le z0 (clampOf v z0 z1)) × T (le (clampOf v z0 z1) z0)
 share-low v h = go (lt v z0) (lt z1 v) (λ t. t) (λ t. t)
@@ -133,7 +142,22 @@ share-high v h = go (lt v z0) (lt z1 v) (λ t. t) (λ t. t)
     go false true f g = (le-same z1 tt, le-same z1 tt)
     go false false f g = (h, le-back z1 v h (g tt))
 
-none-level : toU32 (z0 *ᶠ z255 +ᶠ z½) ≡ 0
+-- any share lies from 0 to 1, or is a NaN
+share-in : (v : Float) → T (not (lt v z0)) → T (not (lt z1 v)) → (v ≡ nan) ⊎ (T (le z0 v) × T (le v z1))
+share-in nan h k = inl refl
+share-in (inf true) h k = absurd (unfold lt in h)
+share-in (inf false) h k = absurd (unfold lt in k)
+share-in (fin s m e) h k = inr (fin-back s false m 0 e (pos 0) h, fin-back false s 1 m (pos 0) e k)
+
+pub share-range : (v : Float) → (clampOf v z0 z1 ≡ nan) ⊎ (T (le z0 (clampOf v z0 z1)) × T (le (clampOf v z0 z1) z1))
+share-range v = go (lt v z0) (lt z1 v) (λ t. t) (λ t. t)
+  where
+    go : (a b : Bool) → (T (not a) → T (not (lt v z0))) → (T (not b) → T (not (lt z1 v))) → (cond a z0 (cond b z1 v) ≡ nan) ⊎ (T (le z0 (cond a z0 (cond b z1 v))) × T (le (cond a z0 (cond b z1 v)) z1))
+    go true b f g = inr (le-same z0 tt, zero-one)
+    go false true f g = inr (zero-one, le-same z1 tt)
+    go false false f g = share-in v (f tt) (g tt)
+
+pub none-level : toU32 (z0 *ᶠ z255 +ᶠ z½) ≡ 0
 unfolding mul add round toUnsigned
 none-level = refl
 
@@ -141,7 +165,7 @@ full-level : toU32 (z1 *ᶠ z255 +ᶠ z½) ≡ 255
 unfolding mul add round toUnsigned
 full-level = refl
 
-none-finite : T (finite (z0 *ᶠ z255))
+pub none-finite : T (finite (z0 *ᶠ z255))
 unfolding mul round
 none-finite = tt
 
@@ -349,3 +373,6 @@ far-cover e x y s h = sym (s .outside (x *ᶠ x +ᶠ y *ᶠ y) (add-fits binary3
 pub near-cover : (e : Edge) (x y : Float) → Sure (e .r) e → (x *ᶠ x +ᶠ y *ᶠ y ≤ᶠ e .near) ≡ true → 255 ≡ cov8Of (sqrtOf (x *ᶠ x +ᶠ y *ᶠ y) -ᶠ e .r)
 unfolding Inside ofBits
 near-cover e x y s h = let d = x *ᶠ x +ᶠ y *ᶠ y in sym (s .inside d (add-fits binary32 _ _) (is-true (le z0 d) (squares x y (e .near) (passed h))) h)
+
+pub own : {r : Float} {e : Edge} → Sure r e → Sure (e .r) e
+own {r} {e} s = subst (λ (k : Float). Sure k e) (sym (s .same)) s

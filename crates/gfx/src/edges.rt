@@ -78,6 +78,19 @@ impl Edge {
         }
     }
 
+    // The same where the coverage of the row beside the corners, `level`, is known.
+    pub fn beside(self, qx: f32, qy: f32, level: u32) -> u32
+        ensures { λ n. ⌜ (Sure (self .r) self → level ≡ cov8Of (qy -ᶠ self .r) → n ≡ cov8Of (cornerSd qx qy (self .r))) ⌝ }
+    {
+        if both_positive(qx, qy) {
+            self.cover(qx, qy)
+        } else if qx > qy {
+            cov8(qx - self.r)
+        } else {
+            level
+        }
+    }
+
     // The coverage of a point by a rounded rectangle.
     pub fn rrect(self, px: f32, py: f32, cx: f32, cy: f32, hw: f32, hh: f32) -> u32
         ensures { λ n. ⌜ (Sure (self .r) self → n ≡ cov8Of (rrectSd px py cx cy hw hh (self .r))) ⌝ }
