@@ -1,5 +1,5 @@
 -- `fill::level_cover` meets its contract. Assumes nothing.
-use mathlib.Core.Path.{sym, _∙_}
+use mathlib.Core.Path.{_∙_}
 use borrow.Author.Needs.{needs}
 use Rattle.gfx.specs.Paints.{rrectSd}
 use Rattle.gfx.proofs.Covers.{own}
