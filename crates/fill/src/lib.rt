@@ -254,16 +254,7 @@ fn wide_span(
 }
 
 // A rim of row y.
-fn rim(
-    px: &mut [u32],
-    w: usize,
-    y: usize,
-    x0: usize,
-    x1: usize,
-    rect: Rect,
-    r: f32,
-    paint: Paint,
-)
+fn rim(px: &mut [u32], w: usize, y: usize, x0: usize, x1: usize, rect: Rect, r: f32, paint: Paint)
     requires { ⌜ RowFits w y x0 x1 (length (now px)) ⌝ }
     ensures { λ _. ⌜ now (px .exit) ≡ drawnIn w (area x0 y x1 (y + 1)) (rimInk rect r paint) (now (px .entry)) ⌝ }
 {

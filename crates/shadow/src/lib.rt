@@ -102,11 +102,7 @@ fn far_of(r: f32, blur: f32, scale: f32) -> f32
     let out = (0.0 <= k) & (m <= mathf::sqrt(k) - r);
     let past = (0.0 < scale) & (scale <= 1048576.0) & (96.0 <= n * scale);
     let small = (0.0 <= m) & (m <= n) & (n <= 1048576.0);
-    if out & past & small {
-        k
-    } else {
-        0.0 / 0.0
-    }
+    if out & past & small { k } else { 0.0 / 0.0 }
 }
 
 // The alpha at the squared distance d of a corner's centre.
