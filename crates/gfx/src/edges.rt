@@ -4,7 +4,7 @@ use crate::paints::cov8;
 ghost use mathlib.Core.Path.{_≡_};
 ghost use Rattle.mathf.specs.F32.{_+ᶠ_, _-ᶠ_, _*ᶠ_};
 ghost use Rattle.mathf.specs.Root.{sqrtOf};
-ghost use Rattle.gfx.specs.Paints.{cov8Of, cornerSd, rrectSd};
+ghost use Rattle.gfx.specs.Paints.{cov8Of, cornerSd};
 ghost use Rattle.gfx.specs.Edges.{Outside, Inside, Sure};
 
 // An edge at the distance r. From the squared distance `far` on it covers nothing, and up to `near` all; a NaN where none was found.
@@ -65,20 +65,8 @@ impl Edge {
         cov8(mathf::sqrt(d) - self.r)
     }
 
-    // The coverage by a rounded corner, from how far a point is past the straight parts of the sides.
-    fn corner(self, qx: f32, qy: f32) -> u32
-        ensures { λ n. ⌜ (Sure (self .r) self → n ≡ cov8Of (cornerSd qx qy (self .r))) ⌝ }
-    {
-        if both_positive(qx, qy) {
-            self.cover(qx, qy)
-        } else if qx > qy {
-            cov8(qx - self.r)
-        } else {
-            cov8(qy - self.r)
-        }
-    }
-
-    // The same where the coverage of the row beside the corners, `level`, is known.
+    // The coverage by a rounded rectangle, from how far a point is past the straight parts of the sides; `level` is that of its row
+    // beside the corners.
     pub fn beside(self, qx: f32, qy: f32, level: u32) -> u32
         ensures { λ n. ⌜ (Sure (self .r) self → level ≡ cov8Of (qy -ᶠ self .r) → n ≡ cov8Of (cornerSd qx qy (self .r))) ⌝ }
     {
@@ -89,14 +77,5 @@ impl Edge {
         } else {
             level
         }
-    }
-
-    // The coverage of a point by a rounded rectangle.
-    pub fn rrect(self, px: f32, py: f32, cx: f32, cy: f32, hw: f32, hh: f32) -> u32
-        ensures { λ n. ⌜ (Sure (self .r) self → n ≡ cov8Of (rrectSd px py cx cy hw hh (self .r))) ⌝ }
-    {
-        let qx = mathf::fabs(px - cx) - (hw - self.r);
-        let qy = mathf::fabs(py - cy) - (hh - self.r);
-        self.corner(qx, qy)
     }
 }
