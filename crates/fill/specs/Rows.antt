@@ -3,12 +3,17 @@ use mathlib.Core.Bool.{Bool, true, false}
 use mathlib.Core.Path.{_≡_}
 use Prim.Native.Nat.{ℕ, _≤_, _<_, min, max}
 use lib.Ieee.{Float}
+use Rattle.mathf.specs.F32.{_-ᶠ_, _*ᶠ_, f½}
+use Rattle.mathf.specs.Order.{fabsOf}
 use Rattle.mathf.specs.Convert.{toI32}
 use Rattle.geom.specs.declared.Rect.{Rect}
 use Rattle.geom.specs.Int.{up}
+use Rattle.geom.specs.Plane.{cyOf}
 use Rattle.draw.specs.Areas.{within}
+use Rattle.gfx.specs.Paints.{cov8Of}
 use Rattle.fill.specs.declared.Ends.{Ends}
 use Rattle.fill.specs.declared.Round.{Round}
+use Rattle.fill.specs.declared.Level.{Level}
 use Rattle.fill.specs.Fill.{leOf, rsOf, middle}
 
 -- where the rims end, as columns: of a corner row, and of any other
@@ -23,6 +28,15 @@ roundOf rect r = record { rect = rect; r = r; bent = endsOf true rect r; straigh
 pub record Ready (s : Round) : Type 0 where
   pub bent : s .bent ≡ endsOf true (s .rect) (s .r)
   pub straight : s .straight ≡ endsOf false (s .rect) (s .r)
+
+-- how far p is past the straight part of a side, from c to a corner of radius r and then h
+abbrev pub pastOf : Float → Float → Float → Float → Float
+pastOf p c h r = fabsOf (p -ᶠ c) -ᶠ (h -ᶠ r)
+
+-- what the columns of the row with the centre yc share
+pub record LevelOf (rect : Rect) (r yc : Float) (l : Level) : Type 0 where
+  pub past : l .qy ≡ pastOf yc (cyOf rect) (rect .h *ᶠ f½) r
+  pub covered : l .level ≡ cov8Of (l .qy -ᶠ r)
 
 -- ends brought to x0 up to x1, the right one never under the left
 abbrev pub clampedOf : Ends → ℕ → ℕ → Ends

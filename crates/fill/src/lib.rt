@@ -10,6 +10,7 @@ use geom::float_ok;
 use geom::nat_of;
 use gfx::Canvas;
 use gfx::Done;
+use gfx::Edge;
 use gfx::Paint;
 use gfx::centre;
 use gfx::cov8;
@@ -18,6 +19,7 @@ use gfx::rrect_sd;
 ghost use mathlib.Core.Path.{_≡_};
 ghost use mathlib.Core.Bool.{Bool};
 ghost use Prim.Native.Nat.{_+_, _≤_, min, max};
+ghost use lib.Ieee.{Float};
 ghost use lib.ListN.{length};
 ghost use Rattle.mathf.specs.F32.{f0};
 ghost use Rattle.mathf.specs.Convert.{toI32};
@@ -26,10 +28,11 @@ ghost use Rattle.draw.specs.Draw.{drawn};
 ghost use Rattle.draw.specs.Areas.{area, drawnIn, clipTo, RowFits, AreaFits};
 ghost use Rattle.gfx.specs.declared.paints.Paint.the-variants.{Solid};
 ghost use Rattle.gfx.specs.Paints.{paintAt};
+ghost use Rattle.gfx.specs.Edges.{Sure};
 ghost use Rattle.fill.specs.Fill.{fillReach, edgeRow, cornerRow, coverOf, rimInk, middleInk, roundInk, fillInk};
 ghost use Rattle.fill.specs.Fill.{Filled, rrectFloats, rectFloats, circleFloats};
 ghost use Rattle.gfx.specs.Paints.{circleRect};
-ghost use Rattle.fill.specs.Rows.{endsOf, roundOf, Ready, clampedOf, Cuts};
+ghost use Rattle.fill.specs.Rows.{endsOf, roundOf, Ready, clampedOf, Cuts, pastOf, LevelOf};
 
 // Columns of a row: where its left rim ends, and where its right rim starts.
 struct Ends {
@@ -151,6 +154,37 @@ fn cover(rect: Rect, r: f32, xc: f32, yc: f32) -> u32
     cov8(rrect_sd(xc, yc, rect.cx(), rect.cy(), rect.w * 0.5, rect.h * 0.5, r))
 }
 
+// How far p is past the straight part of a side, from c to a corner of radius r and then h.
+fn past(p: f32, c: f32, h: f32, r: f32) -> f32
+    ensures { λ q. ⌜ q ≡ pastOf p c h r ⌝ }
+{
+    mathf::fabs(p - c) - (h - r)
+}
+
+// What the columns of a row share: how far it is past the sides, and its coverage beside the corners.
+struct Level {
+    qy: f32,
+    level: u32,
+}
+
+fn level_of(rect: Rect, r: f32, yc: f32) -> Level
+    ensures { λ l. ⌜ LevelOf rect r yc l ⌝ }
+{
+    let qy = past(yc, rect.cy(), rect.h * 0.5, r);
+    Level {
+        qy,
+        level: cov8(qy - r),
+    }
+}
+
+// The coverage of a point of such a row, whose corners have the edge e.
+fn level_cover(rect: Rect, e: Edge, l: Level, xc: f32) -> u32
+    ensures { λ n. ⌜ ((r yc : Float) → Sure r e → LevelOf rect r yc l → n ≡ coverOf rect r xc yc) ⌝ }
+{
+    let qx = past(xc, rect.cx(), rect.w * 0.5, e.r);
+    e.beside(qx, l.qy, l.level)
+}
+
 // The colour of a paint at a point; a plain colour costs no call.
 fn colour_at(paint: Paint, xc: f32, yc: f32) -> Color
     ensures { λ c. ⌜ c ≡ paintAt paint xc yc ⌝ }
@@ -186,6 +220,48 @@ fn rim_span(
         let c = colour_at(paint, xc, yc);
         let i = row + x;
         px[i] = blend_c(px[i], c, cv);
+    }
+}
+
+// The same of many columns: what they share is worked out first, and a root is taken only near the edge.
+fn wide_span(
+    px: &mut [u32],
+    w: usize,
+    y: usize,
+    x0: usize,
+    x1: usize,
+    rect: Rect,
+    r: f32,
+    paint: Paint,
+)
+    requires { ⌜ RowFits w y x0 x1 (length (now px)) ⌝ }
+    ensures { λ _. ⌜ now (px .exit) ≡ drawnIn w (area x0 y x1 (y + 1)) (rimInk rect r paint) (now (px .entry)) ⌝ }
+{
+    let row = y * w;
+    let yc = centre(y as u16);
+    let e = Edge::of(r);
+    let l = level_of(rect, r, yc);
+    for x in x0..x1 {
+        let xc = centre(x as u16);
+        let cv = level_cover(rect, e, l, xc);
+        if cv == 0 {
+            continue;
+        }
+        let c = colour_at(paint, xc, yc);
+        let i = row + x;
+        px[i] = blend_c(px[i], c, cv);
+    }
+}
+
+// A rim of row y.
+fn rim(px: &mut [u32], w: usize, y: usize, x0: usize, x1: usize, rect: Rect, r: f32, paint: Paint)
+    requires { ⌜ RowFits w y x0 x1 (length (now px)) ⌝ }
+    ensures { λ _. ⌜ now (px .exit) ≡ drawnIn w (area x0 y x1 (y + 1)) (rimInk rect r paint) (now (px .entry)) ⌝ }
+{
+    if x1 - x0 < 8 {
+        rim_span(px, w, y, x0, x1, rect, r, paint);
+    } else {
+        wide_span(px, w, y, x0, x1, rect, r, paint);
     }
 }
 
@@ -262,9 +338,9 @@ fn fill_row(px: &mut [u32], w: usize, y: usize, x0: usize, x1: usize, s: Round, 
     let c = cut_row(s, y, x0, x1);
     let lend = c.le;
     let rstart = c.rs;
-    rim_span(px, w, y, x0, lend, rect, r, paint);
+    rim(px, w, y, x0, lend, rect, r, paint);
     middle_span(px, w, y, lend, rstart, paint);
-    rim_span(px, w, y, rstart, x1, rect, r, paint);
+    rim(px, w, y, rstart, x1, rect, r, paint);
 }
 
 // The rows of an area.

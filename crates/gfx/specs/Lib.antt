@@ -3,3 +3,4 @@ pub mod State
 pub mod Calls
 pub mod Paints
 pub mod Points
+pub mod Edges

@@ -120,14 +120,14 @@ pub fn radius(rect: Rect, r: f32) -> f32
     mathf::max(mathf::min(mathf::min(r, rect.w * 0.5), rect.h * 0.5), 0.0)
 }
 
-fn both_positive(a: f32, b: f32) -> bool
+pub fn both_positive(a: f32, b: f32) -> bool
     ensures { λ t. ⌜ t ≡ ((f0 <ᶠ a) && (f0 <ᶠ b)) ⌝ }
 {
     (a > 0.0) & (b > 0.0)
 }
 
 // The distance from how far a point is past the straight parts of the sides, rounded by r.
-fn corner_sd(qx: f32, qy: f32, r: f32) -> f32
+pub fn corner_sd(qx: f32, qy: f32, r: f32) -> f32
     ensures { λ d. ⌜ d ≡ cornerSd qx qy r ⌝ }
 {
     if both_positive(qx, qy) {

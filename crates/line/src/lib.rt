@@ -10,8 +10,8 @@ use geom::float_ok;
 use geom::nat_of;
 use gfx::Canvas;
 use gfx::Done;
+use gfx::Edge;
 use gfx::centre;
-use gfx::cov8;
 use gfx::points_number;
 ghost use mathlib.Core.Path.{_≡_};
 ghost use Prim.Native.Nat.{_+_, _/_, _<_};
@@ -23,6 +23,7 @@ ghost use Rattle.draw.specs.Draw.{drawn};
 ghost use Rattle.draw.specs.Areas.{area, drawnIn, clipTo, RowFits, AreaFits};
 ghost use Rattle.gfx.specs.Calls.{Called, shapeNumber};
 ghost use Rattle.gfx.specs.Points.{pointsNumber};
+ghost use Rattle.gfx.specs.Edges.{Sure};
 ghost use Rattle.line.specs.Lines.{absOf, lineReach, segmentOf, coverOf, segmentInk, lineInk, lineOk};
 ghost use Rattle.line.specs.Polylines.{pointAt, polylined};
 
@@ -76,27 +77,37 @@ fn segment_of(a: Pt, b: Pt, width: f32) -> Segment
     }
 }
 
-// The coverage of a pixel by its centre.
-fn cover(s: Segment, xc: f32, yc: f32) -> u32
+// The coverage of a pixel by its centre; e is the edge at half the width.
+fn cover(s: Segment, e: Edge, xc: f32, yc: f32) -> u32
+    requires { ⌜ Sure (s .hw) e ⌝ }
     ensures { λ r. ⌜ r ≡ coverOf s xc yc ⌝ }
 {
     let a = s.a;
     let t = mathf::saturate(((xc - a.x) * s.dx + (yc - a.y) * s.dy) / s.len2);
     let px = a.x + s.dx * t - xc;
     let py = a.y + s.dy * t - yc;
-    let d = mathf::sqrt(px * px + py * py) - s.hw;
-    cov8(d)
+    e.cover(px, py)
 }
 
 // A part of row y.
-fn segment_row(px: &mut [u32], w: usize, y: usize, x0: usize, x1: usize, s: Segment, color: Color)
+fn segment_row(
+    px: &mut [u32],
+    w: usize,
+    y: usize,
+    x0: usize,
+    x1: usize,
+    s: Segment,
+    e: Edge,
+    color: Color,
+)
     requires { ⌜ RowFits w y x0 x1 (length (now px)) ⌝ }
+    requires { ⌜ Sure (s .hw) e ⌝ }
     ensures { λ _. ⌜ now (px .exit) ≡ drawnIn w (area x0 y x1 (y + 1)) (segmentInk s color) (now (px .entry)) ⌝ }
 {
     let row = y * w;
     let yc = centre(y as u16);
     for x in x0..x1 {
-        let cv = cover(s, centre(x as u16), yc);
+        let cv = cover(s, e, centre(x as u16), yc);
         if cv == 0 {
             continue;
         }
@@ -106,8 +117,9 @@ fn segment_row(px: &mut [u32], w: usize, y: usize, x0: usize, x1: usize, s: Segm
 }
 
 // The pixels of an area, row by row.
-fn segment_box(px: &mut [u32], w: usize, bb: Area, s: Segment, color: Color)
+fn segment_box(px: &mut [u32], w: usize, bb: Area, s: Segment, e: Edge, color: Color)
     requires { ⌜ AreaFits w bb (length (now px)) ⌝ }
+    requires { ⌜ Sure (s .hw) e ⌝ }
     ensures { λ _. ⌜ now (px .exit) ≡ drawnIn w bb (segmentInk s color) (now (px .entry)) ⌝ }
 {
     let x0 = bb.x0;
@@ -115,7 +127,7 @@ fn segment_box(px: &mut [u32], w: usize, bb: Area, s: Segment, color: Color)
     let y0 = bb.y0;
     let y1 = bb.y1;
     for y in y0..y1 {
-        segment_row(px, w, y, x0, x1, s, color);
+        segment_row(px, w, y, x0, x1, s, e, color);
     }
 }
 
@@ -125,7 +137,8 @@ fn draw_line(px: &mut [u32], w: usize, clip: IRect, a: Pt, b: Pt, width: f32, co
     ensures { λ _. ⌜ now (px .exit) ≡ drawn w clip (lineReach a b width) (lineInk a b width color) (now (px .entry)) ⌝ }
 {
     let bb = clipped(line_reach(a, b, width), clip);
-    segment_box(px, w, bb, segment_of(a, b, width), color);
+    let s = segment_of(a, b, width);
+    segment_box(px, w, bb, s, Edge::of(s.hw), color);
 }
 
 fn line_ok(a: Pt, b: Pt, width: f32) -> bool

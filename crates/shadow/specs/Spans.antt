@@ -1,18 +1,20 @@
 -- What the loops of a row do: the alpha read from the table of levels, and the ink of each part of a row.
-use mathlib.Core.Bool.{Bool, cond}
+use mathlib.Core.Bool.{Bool, true, cond}
 use mathlib.Core.Path.{_≡_}
 use mathlib.Core.List.{List}
 use Prim.Native.Nat.{ℕ}
 use lib.ListN.{getD}
-use lib.Ieee.{Float}
-use Rattle.mathf.specs.F32.{_*ᶠ_, _/ᶠ_, _≤ᶠ_, f0, f2, f96}
+use lib.Dec.{T}
+use lib.Ieee.{Float, binary32, fits}
+use Rattle.mathf.specs.F32.{_-ᶠ_, _*ᶠ_, _/ᶠ_, _≤ᶠ_, f0, f2, f96}
+use Rattle.mathf.specs.Root.{sqrtOf}
 use Rattle.mathf.specs.Convert.{toUsize}
 use Rattle.color.specs.declared.Color.{Color}
 use Rattle.color.specs.Inks.{over}
 use Rattle.gfx.specs.declared.paints.Rounded.{Rounded}
 use Rattle.gfx.specs.Paints.{centreOf}
 use Rattle.shadow.specs.declared.Shade.{Shade}
-use Rattle.shadow.specs.Shadow.{levelOf, table, straightSide, cornerSide, straightAlpha, cornerAlpha}
+use Rattle.shadow.specs.Shadow.{levelOf, table, alphaOf, straightSide, cornerSide, straightAlpha, cornerAlpha}
 
 -- the alpha at t levels out, from the table
 unfoldable pub tableAlpha : List ℕ → Float → ℕ
@@ -28,10 +30,15 @@ straightInk s blur c sdy x y p = over p c (straightSide s (c .a) blur sdy (centr
 unfoldable pub cornerInk : Rounded → Float → Color → Float → ℕ → ℕ → ℕ → ℕ
 cornerInk s blur c qy x y p = over p c (cornerSide s (c .a) blur qy (centreOf x))
 
--- the table is the colour's, and the scale the blur's
+-- from the squared distance k of the centre of a corner on, there is no shadow
+unfoldable pub Faded : Float → Float → Float → Type 0
+Faded r blur k = (a : ℕ) (d : Float) → T (fits binary32 d) → (k ≤ᶠ d) ≡ true → alphaOf a blur (sqrtOf d -ᶠ r) ≡ 0
+
+-- the table is the colour's, the scale the blur's, and `far` such a distance
 pub record Table (h : Shade) (lut : List ℕ) : Type 0 where
   pub levels : lut ≡ table (levelOf (h .c .a)) 97
   pub scaled : h .scale ≡ f96 /ᶠ (f2 *ᶠ h .blur)
+  pub faded : Faded (h .s .r) (h .blur) (h .far)
 
 -- a straight row, and any other
 unfoldable pub straightRowInk : Shade → Bool → Float → ℕ → ℕ → ℕ → ℕ

@@ -15,13 +15,14 @@ use gfx::centre;
 ghost use mathlib.Core.Path.{_≡_};
 ghost use Prim.Native.Nat.{_+_, _≤_};
 ghost use lib.ListN.{length};
-ghost use Rattle.mathf.specs.F32.{_/ᶠ_, _*ᶠ_, f2, f96};
+ghost use Rattle.mathf.specs.F32.{_-ᶠ_, _/ᶠ_, _*ᶠ_, f2, f96};
+ghost use Rattle.mathf.specs.Root.{sqrtOf};
 ghost use Rattle.geom.specs.Int.{up};
 ghost use Rattle.draw.specs.Draw.{drawn};
 ghost use Rattle.draw.specs.Areas.{drawnIn, area, RowFits, AreaFits};
 ghost use Rattle.gfx.specs.Calls.{Called, shapeNumber};
 ghost use Rattle.shadow.specs.Shadow.{shadowOk, shadowReach, levelOf, table, stepsOut, alphaOf, rowDy, rowQy, straightFrom, straightUpto, straightMiddle, straightSide, cornerFrom, cornerUpto, cornerSide, shadeInk, shadowInk};
-ghost use Rattle.shadow.specs.Spans.{Table, tableAlpha, flatInk, straightInk, cornerInk, straightRowInk, cornerRowInk};
+ghost use Rattle.shadow.specs.Spans.{Faded, Table, tableAlpha, flatInk, straightInk, cornerInk, straightRowInk, cornerRowInk};
 
 // The reach: nothing where the colour has no alpha or the blur is not above 0.
 pub fn shadow_reach(rect: Rect, blur: f32, c: Color) -> IRect
@@ -79,12 +80,40 @@ fn alpha_of(lut: &[u32; 97], a: u8, blur: f32, scale: f32, sd: f32) -> u32
     table_alpha(lut, (sd + blur) * scale)
 }
 
-// What every row of a shadow asks: its rectangle, the blur, the levels to a pixel, the colour.
+// What every row of a shadow asks: its rectangle, the blur, the levels to a pixel, the squared distance of a corner's centre where
+// it has faded, the colour.
 struct Shade {
     s: Rounded,
     blur: f32,
     scale: f32,
+    far: f32,
     c: Color,
+}
+
+// A squared distance of a corner's centre, from which on there is no shadow: a NaN where none was found.
+fn far_of(r: f32, blur: f32, scale: f32) -> f32
+    requires { ⌜ scale ≡ f96 /ᶠ (f2 *ᶠ blur) ⌝ }
+    ensures { λ k. ⌜ Faded r blur k ⌝ }
+{
+    let m = blur + 0.01;
+    let n = m + blur;
+    let e = r + m + 0.01;
+    let k = e * e;
+    let out = (0.0 <= k) & (m <= mathf::sqrt(k) - r);
+    let past = (0.0 < scale) & (scale <= 1048576.0) & (96.0 <= n * scale);
+    let small = (0.0 <= m) & (m <= n) & (n <= 1048576.0);
+    if out & past & small { k } else { 0.0 / 0.0 }
+}
+
+// The alpha at the squared distance d of a corner's centre.
+fn corner_alpha(lut: &[u32; 97], h: Shade, d: f32) -> u32
+    requires { ⌜ Table h (now lut) ⌝ }
+    ensures { λ r. ⌜ r ≡ alphaOf (h .c .a) (h .blur) (sqrtOf d -ᶠ h .s .r) ⌝ }
+{
+    if h.far <= d {
+        return 0;
+    }
+    alpha_of(lut, h.c.a, h.blur, h.scale, mathf::sqrt(d) - h.s.r)
 }
 
 // The alpha beside the middle of a straight row.
@@ -107,13 +136,7 @@ fn corner_side(lut: &[u32; 97], h: Shade, qy: f32, xc: f32) -> u32
 {
     let qx = mathf::fabs(xc - h.s.cx) - (h.s.hw - h.s.r);
     if qx > 0.0 {
-        alpha_of(
-            lut,
-            h.c.a,
-            h.blur,
-            h.scale,
-            mathf::sqrt(qx * qx + qy * qy) - h.s.r,
-        )
+        corner_alpha(lut, h, qx * qx + qy * qy)
     } else {
         alpha_of(lut, h.c.a, h.blur, h.scale, qy - h.s.r)
     }
@@ -321,7 +344,14 @@ fn shade_area(
     let lut = falloff(c.a);
     let scale = 96.0 / (2.0 * blur);
     let s = Rounded::of(rect, r);
-    let h = Shade { s, blur, scale, c };
+    let far = far_of(s.r, blur, scale);
+    let h = Shade {
+        s,
+        blur,
+        scale,
+        far,
+        c,
+    };
     shade_box(px, &lut, w, b, h, skip);
 }
 

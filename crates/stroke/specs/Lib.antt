@@ -1,2 +1,3 @@
--- The definitions that stroke's contracts cite.
+-- Stroke is what stroke's contracts cite, Rows what its loops do.
 pub mod Stroke
+pub mod Rows

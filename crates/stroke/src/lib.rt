@@ -11,17 +11,21 @@ use geom::nat_of;
 use gfx::Canvas;
 use gfx::Done;
 use gfx::Rounded;
+use gfx::both_positive;
 use gfx::centre;
+use gfx::corner_sd;
 ghost use mathlib.Core.Path.{_≡_};
 ghost use Prim.Native.Nat.{_+_};
+ghost use lib.Ieee.{Float};
 ghost use lib.ListN.{length};
 ghost use Rattle.mathf.specs.F32.{_+ᶠ_, f1};
 ghost use Rattle.geom.specs.Int.{up};
 ghost use Rattle.draw.specs.Draw.{drawn};
 ghost use Rattle.draw.specs.Areas.{drawnIn, area, clipTo, RowFits, AreaFits};
 ghost use Rattle.gfx.specs.Calls.{Called, shapeNumber};
-ghost use Rattle.gfx.specs.Paints.{circleRect};
+ghost use Rattle.gfx.specs.Paints.{circleRect, roundedSd};
 ghost use Rattle.stroke.specs.Stroke.{strokeOk, strokeReach, bandCover, fullRow, cornerRow, sideWidth, gapFrom, gapUpto, bandInk, outlineInk, strokeInk, ringOk};
+ghost use Rattle.stroke.specs.Rows.{LevelOf};
 
 // The reach: nothing where the rectangle has no width or no height, or the colour no alpha.
 pub fn stroke_reach(rect: Rect, c: Color) -> IRect
@@ -110,6 +114,63 @@ fn band_span(
     }
 }
 
+// What the columns of a row share: how far it is past the sides, and its coverage beside the corners.
+struct Level {
+    qy: f32,
+    level: u32,
+}
+
+fn level_of(s: Rounded, width: f32, yc: f32) -> Level
+    ensures { λ l. ⌜ LevelOf s width yc l ⌝ }
+{
+    let qy = mathf::fabs(yc - s.cy) - (s.hh - s.r);
+    Level {
+        qy,
+        level: band_cover(qy - s.r, width),
+    }
+}
+
+// The coverage of a point of such a row.
+fn level_cover(s: Rounded, width: f32, l: Level, xc: f32) -> u32
+    ensures { λ n. ⌜ ((yc : Float) → LevelOf s width yc l → n ≡ bandCover (roundedSd s xc yc) width) ⌝ }
+{
+    let qx = mathf::fabs(xc - s.cx) - (s.hw - s.r);
+    if both_positive(qx, l.qy) {
+        return band_cover(corner_sd(qx, l.qy, s.r), width);
+    }
+    if qx > l.qy {
+        return band_cover(qx - s.r, width);
+    }
+    l.level
+}
+
+// Row y where it is full: its coverage beside the corners is worked out once.
+fn full_span(
+    px: &mut [u32],
+    w: usize,
+    y: usize,
+    x0: usize,
+    x1: usize,
+    s: Rounded,
+    width: f32,
+    c: Color,
+)
+    requires { ⌜ RowFits w y x0 x1 (length (now px)) ⌝ }
+    ensures { λ _. ⌜ now (px .exit) ≡ drawnIn w (area x0 y x1 (y + 1)) (bandInk s width c) (now (px .entry)) ⌝ }
+{
+    let row = y * w;
+    let yc = centre(y as u16);
+    let l = level_of(s, width, yc);
+    for x in x0..x1 {
+        let cv = level_cover(s, width, l, centre(x as u16));
+        if cv == 0 {
+            continue;
+        }
+        let i = row + x;
+        px[i] = blend_c(px[i], c, cv);
+    }
+}
+
 // Row y: whole, or its two sides.
 fn outline_row(
     px: &mut [u32],
@@ -126,7 +187,7 @@ fn outline_row(
 {
     let yc = centre(y as u16);
     if full_row(s, width + 1.0, yc) {
-        band_span(px, w, y, x0, x1, s, width, c);
+        full_span(px, w, y, x0, x1, s, width, c);
         return;
     }
     let a = between(gap_from(s, width, yc), x0, x1);

@@ -1,5 +1,8 @@
 -- `line::cover` meets its contract. Assumes nothing.
+use mathlib.Core.Path.{sym, subst, _∙_}
 use borrow.Author.Needs.{needs}
+use lib.Ieee.{Float}
+use Rattle.gfx.specs.Edges.{Sure}
 use Rattle.line.specs.Lines.{coverOf}
 use Rattle.line.proofs.cover.Statement.{statement}
 use Rattle.line.proofs.cover.Tie as tie
@@ -7,18 +10,15 @@ use Rattle.line.proofs.cover.Tie as tie
 saturate-requires : tie.Need-saturate-requires
 saturate-requires c κs = search needs
 
-sqrt-requires : tie.Need-sqrt-requires
-sqrt-requires c κs = search needs
-
-cov8-requires : tie.Need-cov8-requires
-cov8-requires c κs = search needs
+cover-requires : tie.Need-cover-requires
+cover-requires c κs = search needs
 
 returns : tie.Need-returns
 unfolding coverOf
 returns c =
-    let d = c .before .before in
-    let e = d .before .before .before .before .before in
-    rw (c .cov8 .ensures, d .sqrt .ensures, e .saturate .ensures)
+    let t = c .before .before .before .before .before in
+    let s = t .before .before .before .before .before .before .before in
+    c .cover .ensures (subst (λ (r : Float). Sure r (s .args .e)) (sym (s .pre .same)) (s .pre)) ∙ rw (s .pre .same, t .saturate .ensures)
 
 pub cover-spec : {M : Type 1} → statement M
-cover-spec = tie.close (tie.spec saturate-requires sqrt-requires cov8-requires returns)
+cover-spec = tie.close (tie.spec saturate-requires cover-requires returns)

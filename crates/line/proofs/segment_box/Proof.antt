@@ -7,20 +7,20 @@ use Rattle.line.proofs.segment_box.Statement.{statement}
 use Rattle.line.proofs.segment_box.Tie as tie
 
 abbrev Inv-loop : tie.InvT-loop
-Inv-loop px₀ w s color x0 x1 y0 y1 y₀ px y = InRows w (segmentInk s color) x0 x1 y0 y1 px₀ px y
+Inv-loop px₀ w s e color x0 x1 y0 y1 y₀ px y = InRows w (segmentInk s color) x0 x1 y0 y1 px₀ px y
 
 abbrev μ-loop : tie.MeasureT-loop
-μ-loop px₀ w s color x0 x1 y0 y1 y₀ px y = y1 - y
+μ-loop px₀ w s e color x0 x1 y0 y1 y₀ px y = y1 - y
 
 loop-holds : tie.Need-loop-holds Inv-loop μ-loop
 loop-holds c =
     let args = c .before .args in
-    rows-start _ (segmentInk (args .s) (args .color)) _ _ _ _ _ (c .before .pre .down)
+    rows-start _ (segmentInk (args .s) (args .color)) _ _ _ _ _ (c .before .pre .0 .down)
 
 segment-row-requires : tie.Need-segment-row-requires Inv-loop μ-loop
 segment-row-requires c κs =
     let l = c .before .before in
-    row-fits (l .before .before .pre) (l .loop .inv) (c .before .loop-test .taken)
+    (row-fits (l .before .before .pre .0) (l .loop .inv) (c .before .loop-test .taken), l .before .before .pre .1)
 
 add-y : tie.Need-add-y Inv-loop μ-loop
 add-y c = omega arith

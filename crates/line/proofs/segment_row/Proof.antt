@@ -10,10 +10,10 @@ use Rattle.line.proofs.segment_row.Statement.{statement}
 use Rattle.line.proofs.segment_row.Tie as tie
 
 abbrev Inv-loop : tie.InvT-loop
-Inv-loop px₀ w y x0 x1 s color row yc x₀ px x = InRow w (segmentInk s color) y x0 x1 px₀ px x
+Inv-loop px₀ w y x0 x1 s e color row yc x₀ px x = InRow w (segmentInk s color) y x0 x1 px₀ px x
 
 abbrev μ-loop : tie.MeasureT-loop
-μ-loop px₀ w y x0 x1 s color row yc x₀ px x = x1 - x
+μ-loop px₀ w y x0 x1 s e color row yc x₀ px x = x1 - x
 
 -- the coverage at column x, by the centres of x and y
 at-centre : (c : tie.After-cover Inv-loop μ-loop) → c .cover .result ≡ coverOf (c .before .before .before .before .before .before .args .s) (centreOf (c .before .before .before .loop .x)) (centreOf (c .before .before .before .before .before .before .args .y))
@@ -31,7 +31,7 @@ centre-requires c κs = tt
 loop-holds : tie.Need-loop-holds Inv-loop μ-loop
 loop-holds c =
     let args = c .before .before .args in
-    row-start _ (segmentInk (args .s) (args .color)) _ _ _ _ (c .before .before .pre .order)
+    row-start _ (segmentInk (args .s) (args .color)) _ _ _ _ (c .before .before .pre .0 .order)
 
 cast-centre-2 : tie.Need-cast-centre-2 Inv-loop μ-loop
 cast-centre-2 c = omega arith
@@ -40,7 +40,7 @@ centre-requires-2 : tie.Need-centre-requires-2 Inv-loop μ-loop
 centre-requires-2 c κs = tt
 
 cover-requires : tie.Need-cover-requires Inv-loop μ-loop
-cover-requires c κs = tt
+cover-requires c κs = c .before .before .before .before .before .pre .1
 
 add-x : tie.Need-add-x Inv-loop μ-loop
 add-x c = omega arith
@@ -53,7 +53,7 @@ unfolding segmentInk
 loop-again c =
     let turn = c .before .before .before in
     let loop = turn .before in
-    row-pass (loop .before .before .before .pre) (loop .loop .inv) (turn .loop-test .taken)
+    row-pass (loop .before .before .before .pre .0) (loop .loop .inv) (turn .loop-test .taken)
     (rw (sym (at-centre (c .before)) ∙ c .if1 .taken) (sym (overC-none _ _)))
 
 add-i : tie.Need-add-i Inv-loop μ-loop
@@ -86,7 +86,7 @@ loop-again-2 c =
     let test = c .before .before .before in
     let turn = test .before .before in
     let loop = turn .before in
-    row-next (loop .before .before .before .pre) (loop .loop .inv) (turn .loop-test .taken)
+    row-next (loop .before .before .before .pre .0) (loop .loop .inv) (turn .loop-test .taken)
     (c .blend-c .ensures ∙ rw (at-centre test))
 
 same-length : tie.Need-same-length Inv-loop μ-loop

@@ -10,15 +10,20 @@ falloff-requires c κs = search needs
 of-requires : tie.Need-of-requires
 of-requires c κs = search needs
 
+far-of-requires : tie.Need-far-of-requires
+far-of-requires c κs = refl
+
 shade-box-requires : tie.Need-shade-box-requires
-shade-box-requires c κs = (c .before .before .before .before .before .pre, record { levels = c .before .before .before .falloff .ensures; scaled = refl })
+shade-box-requires c κs =
+    let o = c .before .before .before .before in
+    (o .before .before .pre, record { levels = o .falloff .ensures; scaled = refl; faded = c .before .before .far-of .ensures })
 
 same-length : tie.Need-same-length
 same-length c = search needs
 
 returns : tie.Need-returns
-returns c = rw (← (c .before .before .before .before .before .of .ensures)) (c .before .before .shade-box .ensures)
+returns c = rw (← (c .before .before .before .before .before .before .of .ensures)) (c .before .before .shade-box .ensures)
 
 pub shade-area-spec : {M : Type 1} → statement M
 shade-area-spec =
-    tie.close (tie.spec falloff-requires of-requires shade-box-requires same-length returns)
+    tie.close (tie.spec falloff-requires of-requires far-of-requires shade-box-requires same-length returns)

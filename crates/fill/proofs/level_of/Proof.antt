@@ -1,0 +1,20 @@
+-- `fill::level_of` meets its contract. Assumes nothing.
+use mathlib.Core.Path.{_∙_}
+use borrow.Author.Needs.{needs}
+use Rattle.fill.proofs.level_of.Statement.{statement}
+use Rattle.fill.proofs.level_of.Tie as tie
+
+cy-requires : tie.Need-cy-requires
+cy-requires c κs = search needs
+
+past-requires : tie.Need-past-requires
+past-requires c κs = search needs
+
+cov8-requires : tie.Need-cov8-requires
+cov8-requires c κs = search needs
+
+returns : tie.Need-returns
+returns c = let d = c .before in record { past = d .past .ensures ∙ rw (d .before .before .cy .ensures); covered = c .cov8 .ensures }
+
+pub level-of-spec : {M : Type 1} → statement M
+level-of-spec = tie.close (tie.spec cy-requires past-requires cov8-requires returns)
