@@ -47,7 +47,7 @@ module _ {n m : ℕ} (e : m ≡ n) where
 
     pub refused-call : {given next : Canvas} {px drawn : List ℕ} → Called n given next px drawn (record { number = m; canvas = given }) px
     unfolding left
-    refused-call = record { answers = refused-state _ _; paints = stays _ _ }
+    refused-call {given} {next} {px} {drawn} = record { answers = refused-state given next; paints = stays drawn px }
 
   module _ (z : m ≡ 0) where
     -- what is next follows
@@ -64,4 +64,4 @@ module _ {n m : ℕ} (e : m ≡ n) where
 
     pub accepted-call : {given next : Canvas} {px drawn : List ℕ} → Called n given next px drawn (record { number = m; canvas = next }) drawn
     unfolding left
-    accepted-call = record { answers = accepted-state _ _; paints = follows _ _ }
+    accepted-call {given} {next} {px} {drawn} = record { answers = accepted-state given next; paints = follows drawn px }

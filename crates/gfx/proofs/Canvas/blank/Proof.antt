@@ -1,6 +1,8 @@
 -- `gfx::Canvas::blank` meets its contract. Assumes nothing.
 use mathlib.Core.Path.{_≡_, ap, _∙_}
 use lib.IntN.{ℤ}
+use mir.Syntax.{w32}
+use mir.Val.{toZ, ofZ}
 use Rattle.geom.proofs.Signed.{kept}
 use Rattle.gfx.specs.Calls.{raised}
 use borrow.Author.Needs.{needs}
@@ -8,10 +10,16 @@ use Rattle.gfx.proofs.Canvas.blank.Statement.{statement}
 use Rattle.gfx.proofs.Canvas.blank.Tie as tie
 
 wide : (c : tie.After-raise) → c .raise .result ≡ raised (c .before .args .w)
-wide c = c .raise .ensures ∙ ap (λ (z : ℤ). raised z) (kept (c .before .args .w) (c .before .fits .w .sfits))
+wide c =
+    let st = c .before in
+    let e : c .raise .result ≡ raised (toZ w32 (ofZ w32 (st .args .w))) = c .raise .ensures in
+    e ∙ ap (λ (z : ℤ). raised z) (kept (st .args .w) (st .fits .w .sfits))
 
 tall : (c : tie.After-raise2) → c .raise2 .result ≡ raised (c .before .before .args .h)
-tall c = c .raise2 .ensures ∙ ap (λ (z : ℤ). raised z) (kept (c .before .before .args .h) (c .before .before .fits .h .sfits))
+tall c =
+    let st = c .before .before in
+    let e : c .raise2 .result ≡ raised (toZ w32 (ofZ w32 (st .args .h))) = c .raise2 .ensures in
+    e ∙ ap (λ (z : ℤ). raised z) (kept (st .args .h) (st .fits .h .sfits))
 
 raise-requires : tie.Need-raise-requires
 raise-requires c κs = search needs
