@@ -1,10 +1,11 @@
 -- What a call returns that tests its number and returns early: for its contract, by whether the number is 0. m is the number as the code has
 -- it, n its definition. Assumes nothing.
 use mathlib.Core.Path.{_≡_, refl}
-use mathlib.Core.Bool.{Bool, true, false}
+use mathlib.Core.Bool.{Bool, true, false, cond}
 use mathlib.Core.List.{List}
 use Prim.Native.Nat.{ℕ, suc}
 use native.Mathlib.Omega.{arith}
+use lib.Dec.{eqb}
 use borrow.Author.Tests.{eq-eqb, ne-eqb}
 use Rattle.gfx.specs.Calls.{unless, answer, left, Called, pixelAnswer}
 use Rattle.gfx.specs.declared.Canvas.{Canvas}
@@ -23,29 +24,44 @@ pub passed : (t : Bool) (n rest : ℕ) → unless t (suc n) rest ≡ 0 → (t �
 passed true n rest e = (refl, e)
 passed false n rest e = refused e
 
+-- a number and what goes with it
+done-is : {m n : ℕ} {a b : Canvas} → m ≡ n → a ≡ b → _≡_ {A = Done} (record { number = m; canvas = a }) (record { number = n; canvas = b })
+done-is e f = rw (e, f)
+
+pixel-is : {m n a b : ℕ} → m ≡ n → a ≡ b → _≡_ {A = Pixel} (record { number = m; value = a }) (record { number = n; value = b })
+pixel-is e f = rw (e, f)
+
 module _ {n m : ℕ} (e : m ≡ n) where
   module _ (k : m ≡ 0 → ⊥) where
+    -- what is given stays
+    stays : {A : Type 0} (next given : A) → given ≡ cond (eqb n 0) next given
+    stays next given = rw (← e, ne-eqb m 0 k)
+
     pub refused-state : (given next : Canvas) → _≡_ {A = Done} (record { number = m; canvas = given }) (answer n given next)
     unfolding answer
-    refused-state given next = rw (← e, ne-eqb m 0 k)
+    refused-state given next = done-is e (stays next given)
 
     pub refused-pixel : (v : ℕ) → _≡_ {A = Pixel} (record { number = m; value = 0 }) (pixelAnswer n v)
     unfolding pixelAnswer
-    refused-pixel v = rw (← e, ne-eqb m 0 k)
+    refused-pixel v = pixel-is e (stays v 0)
 
     pub refused-call : {given next : Canvas} {px drawn : List ℕ} → Called n given next px drawn (record { number = m; canvas = given }) px
     unfolding left
-    refused-call = record { answers = refused-state _ _; paints = rw (← e, ne-eqb m 0 k) }
+    refused-call {given} {next} {px} {drawn} = record { answers = refused-state given next; paints = stays drawn px }
 
   module _ (z : m ≡ 0) where
+    -- what is next follows
+    follows : {A : Type 0} (next given : A) → next ≡ cond (eqb n 0) next given
+    follows next given = rw (← e, eq-eqb m 0 z)
+
     pub accepted-state : (given next : Canvas) → _≡_ {A = Done} (record { number = m; canvas = next }) (answer n given next)
     unfolding answer
-    accepted-state given next = rw (← e, eq-eqb m 0 z)
+    accepted-state given next = done-is e (follows next given)
 
     pub accepted-pixel : (v : ℕ) → _≡_ {A = Pixel} (record { number = m; value = v }) (pixelAnswer n v)
     unfolding pixelAnswer
-    accepted-pixel v = rw (← e, eq-eqb m 0 z)
+    accepted-pixel v = pixel-is e (follows v 0)
 
     pub accepted-call : {given next : Canvas} {px drawn : List ℕ} → Called n given next px drawn (record { number = m; canvas = next }) drawn
     unfolding left
-    accepted-call = record { answers = accepted-state _ _; paints = rw (← e, eq-eqb m 0 z) }
+    accepted-call {given} {next} {px} {drawn} = record { answers = accepted-state given next; paints = follows drawn px }

@@ -22,6 +22,7 @@ pub use crate::paints::radius;
 pub use crate::paints::rrect_sd;
 pub use crate::points::coords_ok;
 pub use crate::points::points_number;
+pub use crate::points::points_ok;
 use color::Color;
 use color::Pixel;
 use geom::IRect;

@@ -5,7 +5,7 @@ ghost use mathlib.Core.Path.{_≡_};
 ghost use Rattle.gfx.specs.Points.{pointsOk, coordsOk, pointsNumber};
 
 // An even count of coordinates, of at most 64 points: refusal 13 is given for any other.
-fn points_ok(pts: &[f32]) -> bool
+pub fn points_ok(pts: &[f32]) -> bool
     ensures { λ r. ⌜ r ≡ pointsOk (now (pts .entry)) ⌝ }
 {
     let n = pts.len();

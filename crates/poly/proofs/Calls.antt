@@ -67,6 +67,7 @@ lent-fill c px pts paint scratch {m} {px′} {scratch′} z = go (leb (polyNeed 
   where
     nine : (k : ℕ) → k ≡ 9 → k ≡ 0 → ⊥
     nine k e h = omega arith
+
     go : (t : Bool) → unless t 9 0 ≡ polyNumber c (length px) pts paint (length scratch) → m ≡ unless t 9 0
         → px′ ≡ cond t (drawn (up (c .w)) (c .clip) (polyReach pts) (polyInk pts paint) px) px
         → scratch′ ≡ cond t (cleared (polyNeed pts) scratch) scratch

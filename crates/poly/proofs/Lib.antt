@@ -9,3 +9,4 @@ pub mod Spans
 pub mod Sides
 pub mod Calls
 pub mod Accepts
+pub mod Coverage

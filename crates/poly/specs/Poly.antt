@@ -28,7 +28,6 @@ use Rattle.gfx.specs.declared.paints.Paint.{Paint}
 use Rattle.poly.specs.Lines.{lineAccum}
 use Rattle.poly.specs.declared.bounds.Extent.{Extent}
 use Rattle.poly.specs.declared.bounds.PolyBox.{PolyBox}
-use Rattle.poly.specs.declared.bounds.Plan.{Plan}
 
 -- ---- points
 
@@ -86,31 +85,6 @@ needOf g = (g .bw + 2) * g .bh + 2
 unfoldable pub polyNeed : List Float → ℕ
 polyNeed pts = cond (painted pts) (needOf (polyBox pts)) 0
 
--- ---- reach and need of any points
-
--- what the calls accept of points: the tests of 13 and 6
-unfoldable pub polyOk : List Float → Bool
-polyOk pts = pointsOk pts && coordsOk pts
-
-unfoldable pub needIn : List Float → ℕ
-needIn pts = cond (polyOk pts) (polyNeed pts) 0
-
-unfoldable pub reachIn : List Float → IRect
-reachIn pts = cond (polyOk pts) (polyReach pts) noBox
-
--- ---- the box and the need together
-
-abbrev pub planned : PolyBox → Plan
-planned g = record { g = g; need = needOf g }
-
-abbrev pub noPlan : Plan
-noPlan = record { g = record { ox = pos 0; oy = pos 0; bw = 0; bh = 0 }; need = 0 }
-
-unfoldable pub planOf : List Float → Plan
-planOf pts = cond (painted pts) (planned (polyBox pts)) noPlan
-
--- ---- the words of the accumulator
-
 -- point i from the box's corner
 unfoldable pub pointFrom : List Float → PolyBox → ℕ → Pt
 pointFrom pts g i = ptOf (pointAt pts i .x -ᶠ ofZᶠ (g .ox)) (pointAt pts i .y -ᶠ ofZᶠ (g .oy))
@@ -167,3 +141,15 @@ polyNumber c n pts paint words =
 pub record Filled (n : ℕ) (c : Canvas) (px : List ℕ) (pts : List Float) (paint : Paint) (scratch : List Float) (r : Done) (px′ : List ℕ) (scratch′ : List Float) : Type 0 where
   pub called : Called n c c px (drawn (up (c .w)) (c .clip) (polyReach pts) (polyInk pts paint) px) r px′
   pub clears : scratch′ ≡ cond (eqb n 0) (cleared (polyNeed pts) scratch) scratch
+
+-- ---- reach and need of any points
+
+-- what the calls accept of points: the tests of 13 and 6
+unfoldable pub polyOk : List Float → Bool
+polyOk pts = pointsOk pts && coordsOk pts
+
+unfoldable pub needIn : List Float → ℕ
+needIn pts = cond (polyOk pts) (polyNeed pts) 0
+
+unfoldable pub reachIn : List Float → IRect
+reachIn pts = cond (polyOk pts) (polyReach pts) noBox

@@ -1,6 +1,6 @@
--- What the private contracts of the loops ask: that the accumulator has room for the box, that the box is near, and that a part of the
--- canvas lies in it. Assumes nothing.
-use mathlib.Core.Bool.{Bool, true, false}
+-- What the private contracts ask: that the accumulator has room for the box, that the box is near, and that a part of the canvas lies in
+-- it; and the box with its need. Assumes nothing.
+use mathlib.Core.Bool.{Bool, true, false, cond}
 use mathlib.Core.List.{List}
 use mathlib.Core.Path.{_≡_}
 use Prim.Native.Nat.{ℕ, _+_, _-_, _*_, _≤_}
@@ -13,8 +13,9 @@ use Rattle.gfx.specs.Points.{coordsOk}
 use Rattle.gfx.specs.Paints.{paintAt, centreOf}
 use Rattle.gfx.specs.declared.paints.Paint.{Paint}
 use Rattle.gfx.specs.declared.paints.Paint.the-variants.{Solid, VGrad, Linear, Radial}
-use Rattle.poly.specs.Poly.{pointCount, offsetOf, runSum, coverOf}
+use Rattle.poly.specs.Poly.{pointCount, polyBox, painted, needOf, offsetOf, runSum, coverOf}
 use Rattle.poly.specs.declared.bounds.PolyBox.{PolyBox}
+use Rattle.poly.specs.declared.bounds.Plan.{Plan}
 
 -- the rows of a box of bw by bh lie within n words. No box is wider or higher, since no coordinate is past 8,192
 pub record Room (bw bh n : ℕ) : Type 0 where
@@ -34,6 +35,17 @@ pub record Near (g : PolyBox) : Type 0 where
   pub top : natAbs (g .oy) ≤ 8193
   pub wide : g .bw ≤ 16386
   pub high : g .bh ≤ 16386
+
+-- a box and its need
+abbrev pub planned : PolyBox → Plan
+planned g = record { g = g; need = needOf g }
+
+abbrev pub noPlan : Plan
+noPlan = record { g = record { ox = pos 0; oy = pos 0; bw = 0; bh = 0 }; need = 0 }
+
+-- of what is painted; all zeros where nothing is
+unfoldable pub planOf : List Float → Plan
+planOf pts = cond (painted pts) (planned (polyBox pts)) noPlan
 
 -- a pixel by the words of its row, which starts at ls: column x0 is the one after `skip`
 unfoldable pub inkFrom : List Float → ℕ → ℕ → ℕ → Paint → ℕ → ℕ → ℕ → ℕ

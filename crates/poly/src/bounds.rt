@@ -10,8 +10,8 @@ ghost use lib.ListN.{length};
 ghost use Rattle.mathf.specs.Convert.{toI32};
 ghost use Rattle.mathf.specs.Whole.{floorOf, ceilOf};
 ghost use Rattle.gfx.specs.Points.{coordsOk};
-ghost use Rattle.poly.specs.Poly.{pointCount, pointAt, widened, extentOf, originOf, spanOf, polyBox, reachOf, planOf};
-ghost use Rattle.poly.specs.Rooms.{Ranged, Near};
+ghost use Rattle.poly.specs.Poly.{pointCount, pointAt, widened, extentOf, originOf, spanOf, polyBox, reachOf};
+ghost use Rattle.poly.specs.Rooms.{Ranged, Near, planOf};
 
 // The least and the greatest coordinates.
 pub struct Extent {

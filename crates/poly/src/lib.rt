@@ -16,6 +16,7 @@ use gfx::Done;
 use gfx::Paint;
 use gfx::coords_ok;
 use gfx::points_number;
+use gfx::points_ok;
 ghost use mathlib.Core.Path.{_≡_};
 ghost use lib.ListN.{length};
 ghost use Rattle.poly.specs.Poly.{polyOk, needIn, reachIn, polyNumber, Filled};
@@ -24,8 +25,7 @@ ghost use Rattle.poly.specs.Poly.{polyOk, needIn, reachIn, polyNumber, F
 fn poly_ok(pts: &[f32]) -> bool
     ensures { λ r. ⌜ r ≡ polyOk (now (pts .entry)) ⌝ }
 {
-    let n = pts.len();
-    (n % 2 == 0) & (n <= 128) & coords_ok(pts)
+    points_ok(pts) & coords_ok(pts)
 }
 
 // The scratch words that a polygon needs: none for points that are not accepted.

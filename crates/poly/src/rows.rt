@@ -20,11 +20,15 @@ ghost use Rattle.poly.specs.Poly.{runSum, offsetOf, coverOf, inkIn, reac
 ghost use Rattle.poly.specs.Rooms.{Room, Near, Over, inkFrom, levelOf};
 ghost use Rattle.gfx.specs.declared.paints.Paint.the-variants.{Solid};
 
-// A signed area as a coverage, 0 to 255.
+// A signed area as a coverage, 0 to 255. Most of a box lies outside the polygon: there nothing is converted.
 fn cover(a: f32) -> u32
     ensures { λ r. ⌜ r ≡ coverOf a ⌝ }
 {
-    mathf::to_u32(mathf::saturate(mathf::fabs(a)) * 255.0 + 0.5)
+    let v = mathf::saturate(mathf::fabs(a)) * 255.0 + 0.5;
+    if v < 1.0 {
+        return 0;
+    }
+    mathf::to_u32(v)
 }
 
 // The paint over the pixel p in column x and row y.

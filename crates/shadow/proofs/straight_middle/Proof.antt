@@ -1,4 +1,8 @@
 -- `shadow::straight_middle` meets its contract. Assumes nothing.
+use mathlib.Core.Path.{_≡_}
+use mathlib.Core.Bool.{true, _&&_}
+use lib.Dec.{leb}
+use lib.ListN.{getD}
 use Rattle.shadow.specs.Shadow.{straightMiddle}
 use Rattle.shadow.proofs.Levels.{first-level}
 use borrow.Author.Needs.{needs}
@@ -15,7 +19,9 @@ returns : tie.Need-returns
 unfolding straightMiddle
 returns c =
     let v = c .before .before in
-    rw (← (v .alpha-of .ensures), ← (first-level _ _ (v .before .pre .levels)), c .if1 .taken)
+    let at = v .before .args in
+    let left : (at .skip && leb (getD (at .lut .now) 0 0) (v .alpha-of .result)) ≡ true = c .if1 .taken in
+    rw (← (v .alpha-of .ensures), ← (first-level _ _ (v .before .pre .levels)), left)
 
 returns-2 : tie.Need-returns-2
 unfolding straightMiddle

@@ -1,5 +1,8 @@
 -- `gfx::Canvas::same_size` meets its contract. Assumes nothing.
-use mathlib.Core.Path.{_≡_}
+use mathlib.Core.Path.{_≡_, ap, _∙_}
+use lib.IntN.{ℤ}
+use mir.Syntax.{w32}
+use mir.Val.{toZ, ofZ}
 use Rattle.geom.proofs.Signed.{kept, eq-bits, eq-yes, eq-no}
 use Rattle.gfx.specs.Calls.{raised, sameSize}
 use borrow.Author.Needs.{needs}
@@ -9,12 +12,14 @@ use Rattle.gfx.proofs.Canvas.same_size.Tie as tie
 wide : (c : tie.After-raise) → c .raise .result ≡ raised (c .before .before .before .args .w)
 wide c =
     let st = c .before .before .before in
-    simp (kept (st .args .w) (st .fits .w .sfits)) at (c .raise .ensures)
+    let e : c .raise .result ≡ raised (toZ w32 (ofZ w32 (st .args .w))) = c .raise .ensures in
+    e ∙ ap (λ (z : ℤ). raised z) (kept (st .args .w) (st .fits .w .sfits))
 
 tall : (c : tie.After-raise2) → c .raise2 .result ≡ raised (c .before .before .before .before .before .args .h)
 tall c =
     let st = c .before .before .before .before .before in
-    simp (kept (st .args .h) (st .fits .h .sfits)) at (c .raise2 .ensures)
+    let e : c .raise2 .result ≡ raised (toZ w32 (ofZ w32 (st .args .h))) = c .raise2 .ensures in
+    e ∙ ap (λ (z : ℤ). raised z) (kept (st .args .h) (st .fits .h .sfits))
 
 raise-requires : tie.Need-raise-requires
 raise-requires c κs = search needs

@@ -84,8 +84,10 @@ returns-3 c =
     let e = is-painted t in
     rw (le-leb (polyNeed (at .pts .now)) (length (at .scratch .now)) (enough (t .before))) (
       refl,
-      (f .fill-part .ensures .0 ∙ rw (box-is t, reach-is (at .pts .now) e),
-      ap (λ (l : List Float). l ++ drop (k .plan-of .result .need) (at .scratch .now)) (f .fill-part .ensures .1) ∙ rw (box-is t, need-is (at .pts .now) e, need-known k)),
+      (
+        f .fill-part .ensures .0 ∙ rw (box-is t, reach-is (at .pts .now) e),
+        ap (λ (l : List Float). l ++ drop (k .plan-of .result .need) (at .scratch .now)) (f .fill-part .ensures .1) ∙ rw (box-is t, need-is (at .pts .now) e, need-known k),
+      ),
     )
 
 pub fill-lent-spec : {M : Type 1} → statement M
