@@ -1,6 +1,7 @@
 -- `patch::draw_in` meets its contract. Assumes nothing.
-use mathlib.Core.Path.{ap, _∙_}
+use mathlib.Core.Path.{_≡_, ap, _∙_}
 use Rattle.color.specs.Colours.{pixOf}
+use Rattle.draw.specs.Areas.{clipTo}
 use Rattle.sheet.specs.Check.{widthOf}
 use Rattle.items.specs.Items.{groundOf}
 use Rattle.patch.specs.Patch.{drawnBox}
@@ -38,13 +39,13 @@ same-length-2 c = search needs
 
 returns : tie.Need-returns
 unfolding drawnBox
-returns c = 
+returns c =
+    let a = c .before .before .before .before .before .before .before .before .before .before .before .before .before .before .before .before .before .before .before .args in
     let w = c .before .before .before .before .before .before .before .before .before .before .before .before .before .before .before .u16-at .ensures .0 in
-    let b = c .before .before .before .before .before .before .before .before .before .before .before .before .before .before .clipped .ensures in
+    let b : c .before .before .before .before .before .before .before .before .before .before .before .before .before .before .clipped .result ≡ clipTo (a .bounds) (a .bounds) = c .before .before .before .before .before .before .before .before .before .before .before .before .before .before .clipped .ensures in
     let v = c .before .before .before .before .before .before .before .before .before .before .before .before .pix .ensures ∙ ap pixOf (c .before .before .before .before .before .before .before .before .before .before .before .before .before .ground .ensures) in
     let g = c .before .before .before .before .before .before .before .before .before .before .ground-box .ensures in
     let f = c .before .before .before .before .before .before .before .first-state .ensures in
-    let a = c .before .before .before .before .before .before .before .before .before .before .before .before .before .before .before .before .before .before .before .args in
     rw (ground-is (widthOf (a .s .now)) (a .bounds) (pixOf (groundOf (a .s .now))) (a .px .now)) at (rw (f, w, b, v) at (rw (g) at (c .before .before .before .before .render .ensures)))
 
 pub draw-in-spec : {M : Type 1} → statement M

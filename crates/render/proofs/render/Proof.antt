@@ -7,6 +7,7 @@ use native.Mathlib.Omega.{arith}
 use lib.Ieee.{Float}
 use lib.ListN.{length}
 use Rattle.gfx.specs.declared.Canvas.{Canvas}
+use Rattle.sheet.specs.Check.{countOf}
 use Rattle.render.specs.Stages.{Stage, stage, stagesFrom}
 use Rattle.render.proofs.Turns.{turn, done}
 use Rattle.render.proofs.render.Statement.{statement}
@@ -64,7 +65,8 @@ returns c =
     let l = c .before .loop in
     let u = c .before .before .u16-at in
     let e = sym (done _ (u .result) (l .k) (stage (l .state) (l .px) (l .scratch)) (c .loop-test .left)) ∙ l .inv .rest in
-    rw (← (u .ensures .0)) (record { paints = ap (λ (t : Stage). t .px) e; clears = ap (λ (t : Stage). t .scratch) e })
+    let count : u .result ≡ countOf (c .before .before .before .before .before .before .args .s .now) = u .ensures .0 in
+    rw (← count) (record { paints = ap (λ (t : Stage). t .px) e; clears = ap (λ (t : Stage). t .scratch) e })
 
 pub render-spec : {M : Type 1} → statement M
 render-spec =
