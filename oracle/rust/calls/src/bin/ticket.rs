@@ -1,5 +1,6 @@
 //! Speed of painting and patching a ticket beside the unchanged Rust: `ticket SHEET OTHER`, two files of sheets that differ in one shape.
-//! The smallest time of 200 rounds, the two in turn. The Rust draws items that were read before, on a canvas that is there.
+//! The smallest time of 200 rounds, the two in turn. The Rust draws items that were read before, on a canvas that is there. Then what a
+//! patch costs by the area of its box and by the number of items, and what checking a sheet of about 60,000 bytes costs beside painting it.
 use calls::raw::{maldjupp_paint, maldjupp_patch};
 use kash::{color::Color, gfx::Canvas};
 use sheets::{patch, Sheet};
@@ -18,6 +19,60 @@ fn by_rust(sheet: &Sheet, canvas: &mut Canvas) {
     let [r, g, b] = sheet.ground;
     canvas.clear(Color::rgb(r, g, b));
     sheet.items.iter().for_each(|(item, _)| item.draw(canvas));
+}
+
+/// A sheet 640 × 400 of n fills, 12 × 12 each; the last is a square of a side, at a column.
+fn fills(n: usize, column: f32, side: f32) -> Vec<u8> {
+    let mut out: Vec<u8> = [640u16, 400].iter().flat_map(|v| v.to_le_bytes()).collect();
+    out.extend([240, 240, 240, 0]);
+    out.extend((n as u16).to_le_bytes());
+    out.extend([0, 0]);
+    for k in 0..n {
+        out.extend(((12 + 4 * n + 52 * k) as u16).to_le_bytes());
+        out.extend(52u16.to_le_bytes());
+    }
+    for k in 0..n {
+        let last = k + 1 == n;
+        let (x, y, w) = if last { (column, 20.0, side) } else { ((k * 37 % 620) as f32 + 0.5, (k * 53 % 380) as f32 + 0.25, 12.0) };
+        out.extend([3, 0, 0, 0]);
+        out.extend([x, y, w, w, 3.0f32].iter().flat_map(|v| v.to_le_bytes()));
+        out.extend([0, 0, 0, 0, 200, (k % 256) as u8, 60, 255]);
+        out.extend([0; 20]);
+    }
+    out
+}
+
+/// The smallest times of painting a sheet, of having it refused by 8 after its checks, and of patching it to another.
+fn costs(sheet: &[u8], other: &[u8]) -> [f64; 3] {
+    let mut px = vec![0u32; 640 * 400];
+    let mut least = [f64::MAX; 3];
+    for _ in 0..ROUNDS {
+        let (p, m) = (px.as_mut_ptr(), px.len());
+        let none = std::ptr::NonNull::<f32>::dangling().as_ptr();
+        micros(&mut least[0], || assert_eq!(black_box(unsafe { maldjupp_paint(sheet.as_ptr(), sheet.len(), p, m, none, 0) }).number, 0));
+        micros(&mut least[1], || assert_eq!(black_box(unsafe { maldjupp_paint(sheet.as_ptr(), sheet.len(), p, m - 1, none, 0) }).number, 8));
+        micros(&mut least[2], || {
+            let answer = unsafe { maldjupp_patch(sheet.as_ptr(), sheet.len(), other.as_ptr(), other.len(), p, m, none, 0) };
+            assert_eq!(black_box(answer).number, 0);
+        });
+    }
+    least
+}
+
+fn sizes() {
+    println!("\n| patch, 60 items, box | painted µs | patched µs | ratio |\n|---|---|---|---|");
+    for side in [8, 32, 64, 128, 256] {
+        let [painted, _, patched] = costs(&fills(60, 20.0, side as f32), &fills(60, 20.0, side as f32 - 1.0));
+        println!("| {side} × {side} | {painted:.1} | {patched:.1} | {:.3} |", patched / painted);
+    }
+    println!("\n| patch, box 32 × 32, items | painted µs | patched µs | ratio |\n|---|---|---|---|");
+    for n in [10, 60, 200, 500, 1000] {
+        let [painted, _, patched] = costs(&fills(n, 20.0, 32.0), &fills(n, 20.0, 31.0));
+        println!("| {n} | {painted:.1} | {patched:.1} | {:.3} |", patched / painted);
+    }
+    let sheet = fills(1024, 20.0, 32.0);
+    let [painted, checked, _] = costs(&sheet, &sheet);
+    println!("\n| sheet of {} bytes | µs |\n|---|---|\n| painted | {painted:.1} |\n| read and checked | {checked:.1}, {:.1} % |", sheet.len(), 100.0 * checked / painted);
 }
 
 fn main() {
@@ -46,4 +101,5 @@ fn main() {
     println!("|---|---|---|---|");
     println!("| painted | {painted:.0} | {rust:.0} | {:.2} |", painted / rust);
     println!("| patched, box {w} × {h}; the Rust paints it anew | {patched:.0} | {rust:.0} | {:.2} |", patched / rust);
+    sizes();
 }
