@@ -2,14 +2,13 @@
 use Prim.Native.Nat.{ℕ, _-_, _≤_}
 use mathlib.Core.Path.{_≡_, refl, sym, ap, _∙_}
 use mathlib.Core.List.{List}
-use native.Mathlib.Nat.{sub-zero}
 use native.Mathlib.Omega.{arith}
 use lib.Ieee.{Float}
 use lib.ListN.{length}
 use Rattle.gfx.specs.declared.Canvas.{Canvas}
 use Rattle.sheet.specs.Check.{countOf}
 use Rattle.render.specs.Stages.{Stage, stage, stagesFrom}
-use Rattle.render.proofs.Turns.{turn, done}
+use Rattle.render.proofs.Turns.{start, turn, done}
 use Rattle.render.proofs.render.Statement.{statement}
 use Rattle.render.proofs.render.Tie as tie
 
@@ -29,7 +28,7 @@ u16-at-requires : tie.Need-u16-at-requires Inv-loop μ-loop
 u16-at-requires c κs = tt
 
 loop-holds : tie.Need-loop-holds Inv-loop μ-loop
-loop-holds c = record { rest = rw (sub-zero (c .u16-at .result)); px-length = refl; scratch-length = refl; within = omega arith }
+loop-holds c = record { rest = start _ (c .u16-at .result) _; px-length = refl; scratch-length = refl; within = omega arith }
 
 cast-draw-at : tie.Need-cast-draw-at Inv-loop μ-loop
 cast-draw-at c = omega (arith, c .before .before .u16-at .ensures .1)
