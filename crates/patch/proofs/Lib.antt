@@ -1,0 +1,2 @@
+-- The laws of patching. Assumes nothing.
+pub mod Patching

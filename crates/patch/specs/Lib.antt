@@ -1,0 +1,2 @@
+-- The definitions that the contracts of patch cite. Assumes nothing.
+pub mod Patch
