@@ -1,0 +1,20 @@
+-- `paintsheet::text::after` meets its contract. Assumes nothing.
+use native.Mathlib.Omega.{arith}
+use borrow.Author.Tests.{eq-eqb, ne-eqb}
+use Rattle.paintsheet.proofs.text.after.Statement.{statement}
+use Rattle.paintsheet.proofs.text.after.Tie as tie
+
+add-if1 : tie.Need-add-if1
+add-if1 c = omega arith
+
+rem-if1 : tie.Need-rem-if1
+rem-if1 c = omega arith
+
+returns : tie.Need-returns
+returns c = rw (eq-eqb _ _ (c .if1 .taken))
+
+returns-2 : tie.Need-returns-2
+returns-2 c = rw (ne-eqb _ _ (c .if1 .left))
+
+pub after-spec : {M : Type 1} → statement M
+after-spec = tie.close (tie.spec add-if1 rem-if1 returns returns-2)

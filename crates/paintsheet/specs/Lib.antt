@@ -1,0 +1,2 @@
+-- The definitions that the contracts of `paintsheet` cite. Assumes nothing.
+pub mod Digits

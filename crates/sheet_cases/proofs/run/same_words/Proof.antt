@@ -1,0 +1,56 @@
+-- `sheet_cases::run::same_words` is safe and ends. Assumes nothing.
+use mathlib.Core.Path.{_≡_}
+use Prim.Native.Nat.{_-_, _≤_}
+use lib.ListN.{length}
+use borrow.Author.Needs.{needs}
+use Rattle.sheet_cases.proofs.run.same_words.Statement.{statement}
+use Rattle.sheet_cases.proofs.run.same_words.Tie as tie
+
+abbrev Inv-loop : tie.InvT-loop
+Inv-loop px bytes at place₀ same₀ i₀ i-end place same i = (i ≤ i-end) × (i-end ≡ length px)
+
+abbrev μ-loop : tie.MeasureT-loop
+μ-loop px bytes at place₀ same₀ i₀ i-end place same i = i-end - i
+
+loop-holds : tie.Need-loop-holds Inv-loop μ-loop
+loop-holds c = search needs
+
+mul-same : tie.Need-mul-same Inv-loop μ-loop
+mul-same c = search needs
+
+shared-slice-read-same : tie.Need-shared-slice-read-same Inv-loop μ-loop
+shared-slice-read-same c = search needs
+
+word-requires : tie.Need-word-requires Inv-loop μ-loop
+word-requires c κs = search needs
+
+wrapping-add-u32-requires : tie.Need-wrapping-add-u32-requires Inv-loop μ-loop
+wrapping-add-u32-requires c κs = search needs
+
+add-i : tie.Need-add-i Inv-loop μ-loop
+add-i c = search needs
+
+loop-less : tie.Need-loop-less Inv-loop μ-loop
+loop-less c = search needs
+
+loop-again : tie.Need-loop-again Inv-loop μ-loop
+loop-again c = search needs
+
+returns : tie.Need-returns Inv-loop μ-loop
+returns c = search needs
+
+pub same-words-spec : {M : Type 1} → statement M
+same-words-spec =
+    tie.close
+    (tie.spec
+    Inv-loop
+    μ-loop
+    loop-holds
+    mul-same
+    shared-slice-read-same
+    word-requires
+    wrapping-add-u32-requires
+    add-i
+    loop-less
+    loop-again
+    returns)

@@ -1,0 +1,56 @@
+-- `sheet_cases::run::swept` is safe and ends. Assumes nothing.
+use mathlib.Core.Path.{_≡_}
+use Prim.Native.Nat.{_-_, _≤_}
+use lib.ListN.{length}
+use borrow.Author.Needs.{needs}
+use Rattle.sheet_cases.proofs.run.swept.Statement.{statement}
+use Rattle.sheet_cases.proofs.run.swept.Tie as tie
+
+abbrev Inv-loop : tie.InvT-loop
+Inv-loop scratch need same₀ i₀ i-end same i = (i ≤ i-end) × (i-end ≡ length scratch)
+
+abbrev μ-loop : tie.MeasureT-loop
+μ-loop scratch need same₀ i₀ i-end same i = i-end - i
+
+loop-holds : tie.Need-loop-holds Inv-loop μ-loop
+loop-holds c = search needs
+
+mul-pattern : tie.Need-mul-pattern Inv-loop μ-loop
+mul-pattern c = search needs
+
+shared-slice-read-pattern : tie.Need-shared-slice-read-pattern Inv-loop μ-loop
+shared-slice-read-pattern c = search needs
+
+pattern-requires : tie.Need-pattern-requires Inv-loop μ-loop
+pattern-requires c κs = search needs
+
+left-requires : tie.Need-left-requires Inv-loop μ-loop
+left-requires c κs = search needs
+
+add-i : tie.Need-add-i Inv-loop μ-loop
+add-i c = search needs
+
+loop-less : tie.Need-loop-less Inv-loop μ-loop
+loop-less c = search needs
+
+loop-again : tie.Need-loop-again Inv-loop μ-loop
+loop-again c = search needs
+
+returns : tie.Need-returns Inv-loop μ-loop
+returns c = search needs
+
+pub swept-spec : {M : Type 1} → statement M
+swept-spec =
+    tie.close
+    (tie.spec
+    Inv-loop
+    μ-loop
+    loop-holds
+    mul-pattern
+    shared-slice-read-pattern
+    pattern-requires
+    left-requires
+    add-i
+    loop-less
+    loop-again
+    returns)
