@@ -13,7 +13,7 @@ use crate::{raw, sheet, Error, IRect, Refusal, Refused, Shape, SheetBuilder, She
 /// // The same, drawn from the start: the library finds the shape that differs.
 /// let altered = ticket.edit(|b| {
 ///     b.clear();
-///     b.add(&bar(18_400.0)).map(|_| ())
+///     b.add(&bar(18_400.0))
 /// })?;
 /// assert_eq!(altered, IRect::new(10, 20, 56, 26));
 /// # Ok::<(), Box<dyn std::error::Error>>(())
@@ -58,8 +58,8 @@ impl Ticket {
         Ok(altered)
     }
 
-    /// Alters the sheet by calls of a builder that holds it, and patches the ticket to it.
-    pub fn edit(&mut self, alter: impl FnOnce(&mut SheetBuilder) -> Result<(), SheetError>) -> Result<IRect, Error> {
+    /// Alters the sheet by calls of a builder that holds it, and patches the ticket to it. Where a call fails, nothing is patched.
+    pub fn edit<T>(&mut self, alter: impl FnOnce(&mut SheetBuilder) -> Result<T, SheetError>) -> Result<IRect, Error> {
         let mut builder = self.builder();
         alter(&mut builder)?;
         Ok(self.patch(builder.bytes())?)

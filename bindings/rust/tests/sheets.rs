@@ -1,5 +1,6 @@
 //! The builder and the ticket against the library, on random calls. `Plain` writes the format without any limit.
 use maldjupp::{Color, Error, IRect, Paint, Pt, Rect, Refusal, Refused, Shape, SheetBuilder, SheetError, Ticket};
+use std::{fs, path::Path};
 
 struct Random(u64);
 
@@ -322,8 +323,8 @@ fn edits_of_more_than_a_shape_are_refused() {
     let mut ticket = Ticket::paint(&b).unwrap();
     let refused = Err(Error::Refused(Refused { refusal: Refusal::Difference, item: 0 }));
     assert_eq!(ticket.edit(|b| b.replace(0, &at(1.0)).and(b.replace(1, &at(3.0)))), refused);
-    assert_eq!(ticket.edit(|b| b.add(&at(1.0)).map(|_| ())), refused);
-    assert_eq!(ticket.edit(|_| Ok(())), Ok(IRect::default()));
+    assert_eq!(ticket.edit(|b| b.add(&at(1.0))), refused);
+    assert_eq!(ticket.edit(|b| b.replace(0, &at(0.0))), Ok(IRect::default()));
     assert_eq!(ticket.edit(|b| b.replace(7, &at(1.0))), Err(Error::Sheet(SheetError::NoItem { index: 7, count: 2 })));
     assert_eq!(ticket.replace(0, at(5.0)), Ok(IRect::new(0, 0, 6, 1)));
     assert_eq!(ticket.px(), [0, 0, 0xFF_FFFF, 0, 0, 0xFF_FFFF, 0, 0]);
@@ -366,4 +367,24 @@ fn damaged_sheets() {
         }
     }
     assert!([0, 1, 2, 3, 4, 5, 6].iter().all(|n| seen[*n] > 0) && seen[8] == 0 && seen[9] == 0, "{seen:?}");
+}
+
+/// The stored sheets, whose pixels are the unchanged Rust's. A ticket lends what its sheet needs, so 8 and 9 do not come.
+#[test]
+fn stored_sheets() {
+    let folder = Path::new(env!("CARGO_MANIFEST_DIR")).join("../../oracle/stored/paintsheet");
+    let mut ran = 0;
+    for file in fs::read_dir(folder).unwrap().map(|entry| entry.unwrap().path()) {
+        if file.extension().is_some_and(|e| e == "in") {
+            let expected = fs::read_to_string(file.with_extension("out")).unwrap();
+            let hex = |row: &[u32]| row.iter().map(|p| format!("{p:08X}")).collect::<Vec<_>>().join(" ") + "\n";
+            match Ticket::from_bytes(fs::read(&file).unwrap()) {
+                Ok(_) if expected.starts_with("refused 8 ") || expected.starts_with("refused 9 ") => {}
+                Ok(ticket) => assert!(ticket.px().chunks(ticket.width()).map(hex).collect::<String>() == expected, "{}", file.display()),
+                Err(refused) => assert!(refused.to_string().starts_with(expected.trim_end()), "{}", file.display()),
+            }
+            ran += 1;
+        }
+    }
+    assert!(ran >= 20, "{ran}");
 }
