@@ -1,0 +1,69 @@
+//! Paints the first sheet of a folder and patches the ticket through the others: `settling FOLDER OUT`.
+//!
+//! After every patch the pixels must be those of a fresh painting, and none outside the returned box altered. Writes start.ppm, ticket.ppm
+//! (the last) and boxes.ppm (the last, paled, with every box outlined) into OUT.
+use maldjupp::{to_ppm, IRect, Ticket};
+use std::{env, error::Error, fs, path::Path, path::PathBuf};
+
+/// The colour of a box's outline, by the word in its sheet's name.
+fn outline(word: &str) -> u32 {
+    match word {
+        "trace" => 0x00D0_2878,
+        "gross" => 0x001E_6EDC,
+        _ => 0x00E0_7800,
+    }
+}
+
+fn draw(px: &mut [u32], width: usize, area: &IRect, colour: u32) {
+    for (i, p) in px.iter_mut().enumerate() {
+        let (x, y) = ((i % width) as i32, (i / width) as i32);
+        let inner = IRect::new(area.x0 + 1, area.y0 + 1, area.x1 - 1, area.y1 - 1);
+        if area.contains(x, y) && !inner.contains(x, y) {
+            *p = colour;
+        }
+    }
+}
+
+/// Halfway to white.
+fn paled(p: u32) -> u32 {
+    0x0080_8080 + ((p >> 1) & 0x007F_7F7F)
+}
+
+fn main() -> Result<(), Box<dyn Error>> {
+    let words: Vec<String> = env::args().skip(1).collect();
+    let [folder, out] = &words[..] else { return Err("usage: settling FOLDER OUT".into()) };
+    let out = Path::new(out);
+    let mut files: Vec<PathBuf> = fs::read_dir(folder)?.map(|entry| entry.map(|e| e.path())).collect::<Result<_, _>>()?;
+    files.retain(|file| file.extension().is_some_and(|e| e == "sheet"));
+    files.sort();
+    let (first, others) = files.split_first().ok_or("there is no sheet in the folder")?;
+
+    let mut ticket = Ticket::from_bytes(fs::read(first)?)?;
+    let (w, h, items) = (ticket.width(), ticket.height(), ticket.builder().items());
+    println!("painted {w} x {h}, {items} items");
+    fs::write(out.join("start.ppm"), ticket.to_ppm())?;
+
+    let mut boxes = vec![];
+    for file in others {
+        let name = file.file_stem().unwrap_or_default().to_string_lossy().into_owned();
+        let (new, before) = (fs::read(file)?, ticket.px().to_vec());
+        let area = ticket.patch(new)?;
+        let outside = |i: usize| !area.contains((i % w) as i32, (i / w) as i32);
+        if ticket.px() != Ticket::from_bytes(ticket.sheet().to_vec())?.px() {
+            return Err(format!("{name}: the pixels are not those of a fresh painting").into());
+        }
+        if (0..before.len()).any(|i| outside(i) && before[i] != ticket.px()[i]) {
+            return Err(format!("{name}: a pixel outside the box was altered").into());
+        }
+        let (bw, bh) = (area.x1 - area.x0, area.y1 - area.y0);
+        println!("patched {name:<9} box {bw:>3} x {bh:>3} at {:>3},{:>3}", area.x0, area.y0);
+        boxes.push((area, outline(name.split_once('-').map_or("", |(_, word)| word))));
+    }
+    fs::write(out.join("ticket.ppm"), ticket.to_ppm())?;
+
+    let mut px: Vec<u32> = ticket.px().iter().copied().map(paled).collect();
+    boxes.iter().for_each(|(area, colour)| draw(&mut px, w, area, *colour));
+    fs::write(out.join("boxes.ppm"), to_ppm(w, &px))?;
+    println!("{} patches: after each, the pixels are those of a fresh painting, and none outside the box was altered", boxes.len());
+    Ok(())
+}

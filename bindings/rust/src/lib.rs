@@ -1,0 +1,38 @@
+//! Weighbridge tickets as pictures: a sheet of shapes is built, painted and patched by the proved static library `maldjupp`.
+//!
+//! ```
+//! use maldjupp::{Color, IRect, Rect, Refusal, Shape, SheetBuilder, Ticket};
+//!
+//! let red = Color::rgb(255, 0, 0);
+//! let mut b = SheetBuilder::new(4, 1, Color::BLACK)?;
+//! let bar = b.fill_rect(Rect::new(0.0, 0.0, 1.0, 1.0), red)?;
+//! let mut ticket = Ticket::paint(&b)?;
+//! assert_eq!(ticket.px(), [0x00FF0000, 0, 0, 0]);
+//!
+//! let altered = ticket.replace(bar, Shape::fill_rect(Rect::new(2.0, 0.0, 1.0, 1.0), red))?;
+//! assert_eq!(altered, IRect::new(0, 0, 3, 1));
+//! assert_eq!(ticket.px(), [0, 0, 0x00FF0000, 0]);
+//!
+//! // What the library refuses alters nothing. Here: bytes that are no sheet.
+//! let refused = ticket.patch(vec![0; 11]).unwrap_err();
+//! assert_eq!(refused.refusal, Refusal::SheetLength);
+//! assert_eq!(refused.to_string(), "refused 1 at 0: The sheet is under 12 or over 60,000 bytes.");
+//! assert_eq!(ticket.px(), [0, 0, 0x00FF0000, 0]);
+//! # Ok::<(), Box<dyn std::error::Error>>(())
+//! ```
+//!
+//! The library is found by the build script: in the folder that `MALDJUPP_LIB_DIR` names, else where `rt staticlib maldjupp` writes it.
+#![deny(unsafe_code)]
+#![warn(missing_docs)]
+
+#[allow(unsafe_code)]
+mod raw;
+mod refusal;
+mod sheet;
+mod ticket;
+mod values;
+
+pub use refusal::{Error, Refusal, Refused, SheetError};
+pub use sheet::{Shape, SheetBuilder};
+pub use ticket::{to_ppm, Ticket};
+pub use values::{Color, IRect, Paint, Pt, Rect};

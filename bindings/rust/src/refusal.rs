@@ -1,0 +1,228 @@
+//! Why a sheet is refused, and why a call of the builder is.
+use std::{error, fmt};
+
+/// Why the library refused a sheet or a patch.
+#[derive(Clone, Copy, Debug, PartialEq, Eq)]
+#[non_exhaustive]
+pub enum Refusal {
+    /// 1
+    SheetLength,
+    /// 2
+    Header,
+    /// 3
+    Pairs,
+    /// 4
+    Kind,
+    /// 5
+    ZeroByte,
+    /// 6
+    Float,
+    /// 7
+    Clips,
+    /// 8
+    Pixels,
+    /// 9
+    Scratch,
+    /// 10
+    Difference,
+    /// 13
+    Points,
+    /// A number that this crate does not know.
+    Other(u32),
+}
+
+impl Refusal {
+    /// Every refusal that a sheet call gives.
+    pub const ALL: [Refusal; 11] = [
+        Refusal::SheetLength,
+        Refusal::Header,
+        Refusal::Pairs,
+        Refusal::Kind,
+        Refusal::ZeroByte,
+        Refusal::Float,
+        Refusal::Clips,
+        Refusal::Pixels,
+        Refusal::Scratch,
+        Refusal::Difference,
+        Refusal::Points,
+    ];
+
+    /// The number that the library returns.
+    pub const fn number(self) -> u32 {
+        match self {
+            Refusal::SheetLength => 1,
+            Refusal::Header => 2,
+            Refusal::Pairs => 3,
+            Refusal::Kind => 4,
+            Refusal::ZeroByte => 5,
+            Refusal::Float => 6,
+            Refusal::Clips => 7,
+            Refusal::Pixels => 8,
+            Refusal::Scratch => 9,
+            Refusal::Difference => 10,
+            Refusal::Points => 13,
+            Refusal::Other(number) => number,
+        }
+    }
+
+    /// The refusal of a number; none of 0, which is no refusal.
+    pub fn of(number: u32) -> Option<Refusal> {
+        match Refusal::ALL.into_iter().find(|refusal| refusal.number() == number) {
+            None if number != 0 => Some(Refusal::Other(number)),
+            found => found,
+        }
+    }
+
+    /// What it means, as a sentence.
+    pub const fn sentence(self) -> &'static str {
+        match self {
+            Refusal::SheetLength => "The sheet is under 12 or over 60,000 bytes.",
+            Refusal::Header => "A side is outside 1 to 2,048, there are over 1,024 items, or a zero byte of the header is filled.",
+            Refusal::Pairs => "The pairs of offset and length do not run on to the end of the sheet.",
+            Refusal::Kind => "The item's kind is unknown, or its length is not its kind's.",
+            Refusal::ZeroByte => "A zero byte of the item is filled, its paint kind is over 3 or its skip_inside over 1.",
+            Refusal::Float => "A float of the item is not finite or past 8,192 either way.",
+            Refusal::Clips => "The item pushes a clip while 16 are saved.",
+            Refusal::Pixels => "The pixels lent are not width times height.",
+            Refusal::Scratch => "The scratch lent is less than the sheet needs.",
+            Refusal::Difference => "The sheets differ in more than one shape, or in something other than a shape.",
+            Refusal::Points => "The polygon has over 64 points.",
+            Refusal::Other(_) => "The library gave a number that this crate does not know.",
+        }
+    }
+}
+
+impl fmt::Display for Refusal {
+    fn fmt(&self, f: &mut fmt::Formatter) -> fmt::Result {
+        f.write_str(self.sentence())
+    }
+}
+
+/// A refusal and the item that it names.
+#[derive(Clone, Copy, Debug, PartialEq, Eq)]
+pub struct Refused {
+    /// Why.
+    pub refusal: Refusal,
+    /// The item, counted from 1 (an index plus one); 0 where the refusal names none.
+    pub item: u32,
+}
+
+impl fmt::Display for Refused {
+    fn fmt(&self, f: &mut fmt::Formatter) -> fmt::Result {
+        write!(f, "refused {} at {}: {}", self.refusal.number(), self.item, self.refusal)
+    }
+}
+
+impl error::Error for Refused {}
+
+/// Why a call of [`SheetBuilder`](crate::SheetBuilder) was not carried out. The builder is then as it was before the call.
+#[derive(Clone, Copy, Debug, PartialEq)]
+#[non_exhaustive]
+pub enum SheetError {
+    /// A side is outside 1 to 2,048.
+    Sides {
+        /// The width given.
+        w: u32,
+        /// The height given.
+        h: u32,
+    },
+    /// A float that would be written is not finite or past 8,192 either way.
+    Float {
+        /// Which one.
+        field: &'static str,
+        /// Its value.
+        value: f32,
+    },
+    /// 16 clips are saved already.
+    Clips,
+    /// A polygon of over 64 points.
+    Points {
+        /// How many were given.
+        count: usize,
+    },
+    /// The sheet has 1,024 items already.
+    Items,
+    /// The sheet would be over 60,000 bytes.
+    Length {
+        /// How long it would be.
+        bytes: usize,
+    },
+    /// There is no item of this index.
+    NoItem {
+        /// The index given.
+        index: usize,
+        /// How many items there are.
+        count: usize,
+    },
+    /// The item of this index pushes or pops a clip, and only a shape can be replaced.
+    NotAShape {
+        /// The index given.
+        index: usize,
+    },
+}
+
+impl SheetError {
+    /// The refusal that the library would give to the sheet; none where there would be no such sheet.
+    pub const fn refusal(&self) -> Option<Refusal> {
+        match self {
+            SheetError::Sides { .. } | SheetError::Items => Some(Refusal::Header),
+            SheetError::Float { .. } => Some(Refusal::Float),
+            SheetError::Clips => Some(Refusal::Clips),
+            SheetError::Points { .. } => Some(Refusal::Points),
+            SheetError::Length { .. } => Some(Refusal::SheetLength),
+            SheetError::NoItem { .. } | SheetError::NotAShape { .. } => None,
+        }
+    }
+}
+
+impl fmt::Display for SheetError {
+    fn fmt(&self, f: &mut fmt::Formatter) -> fmt::Result {
+        match self {
+            SheetError::Sides { w, h } => write!(f, "the sides are {w} and {h}; each must be 1 to 2,048"),
+            SheetError::Float { field, value } if value.is_finite() => {
+                write!(f, "{field} is {value}; it must be -8,192 to 8,192")
+            }
+            SheetError::Float { field, value } => write!(f, "{field} is {value}; it must be finite"),
+            SheetError::Clips => f.write_str("16 clips are saved; a 17th cannot be pushed"),
+            SheetError::Points { count } => write!(f, "the polygon has {count} points; 64 are the most"),
+            SheetError::Items => f.write_str("the sheet has 1,024 items, and no more can be added"),
+            SheetError::Length { bytes } => write!(f, "the sheet would be {bytes} bytes long; 60,000 are the most"),
+            SheetError::NoItem { index, count } => write!(f, "there is no item of index {index}; the sheet has {count} items"),
+            SheetError::NotAShape { index } => write!(f, "the item of index {index} is a clip's push or pop; only a shape can be replaced"),
+        }
+    }
+}
+
+impl error::Error for SheetError {}
+
+/// Why an edit of a ticket was not carried out. The ticket is then as it was.
+#[derive(Clone, Copy, Debug, PartialEq)]
+pub enum Error {
+    /// A call of the builder failed.
+    Sheet(SheetError),
+    /// The library refused the patch.
+    Refused(Refused),
+}
+
+impl fmt::Display for Error {
+    fn fmt(&self, f: &mut fmt::Formatter) -> fmt::Result {
+        match self {
+            Error::Sheet(e) => e.fmt(f),
+            Error::Refused(e) => e.fmt(f),
+        }
+    }
+}
+
+impl error::Error for Error {}
+
+impl From<SheetError> for Error {
+    fn from(e: SheetError) -> Error {
+        Error::Sheet(e)
+    }
+}
+
+impl From<Refused> for Error {
+    fn from(e: Refused) -> Error {
+        Error::Refused(e)
+    }
+}

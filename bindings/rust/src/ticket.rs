@@ -1,0 +1,139 @@
+//! The ticket: a sheet, and the pixels that show it.
+use crate::{raw, sheet, Error, IRect, Refusal, Refused, Shape, SheetBuilder, SheetError};
+
+/// A painted sheet with its pixels. They are always those of its sheet, whatever was edited or refused before.
+///
+/// ```
+/// use maldjupp::{Color, IRect, Rect, Shape, SheetBuilder, Ticket};
+/// let bar = |kg: f32| Shape::fill_rect(Rect::new(10.0, 20.0, kg / 400.0, 6.0), Color::rgb(32, 122, 78));
+/// let mut b = SheetBuilder::new(120, 80, Color::WHITE)?;
+/// let net = b.add(&bar(18_000.0))?;
+/// let mut ticket = Ticket::paint(&b)?;
+/// assert_eq!(ticket.replace(net, bar(18_220.0))?, IRect::new(10, 20, 56, 26));
+/// // The same, drawn from the start: the library finds the shape that differs.
+/// let altered = ticket.edit(|b| {
+///     b.clear();
+///     b.add(&bar(18_400.0))
+/// })?;
+/// assert_eq!(altered, IRect::new(10, 20, 56, 26));
+/// # Ok::<(), Box<dyn std::error::Error>>(())
+/// ```
+#[derive(Clone, Debug)]
+pub struct Ticket {
+    sheet: Vec<u8>,
+    px: Vec<u32>,
+    scratch: Vec<f32>,
+}
+
+fn answer(reply: raw::Reply) -> Result<IRect, Refused> {
+    match Refusal::of(reply.number) {
+        None => Ok(IRect::new(reply.x0, reply.y0, reply.x1, reply.y1)),
+        Some(refusal) => Err(Refused { refusal, item: reply.item }),
+    }
+}
+
+impl Ticket {
+    /// Paints what a builder holds.
+    pub fn paint(sheet: &SheetBuilder) -> Result<Ticket, Refused> {
+        Ticket::from_bytes(sheet.bytes())
+    }
+
+    /// Paints a sheet given as bytes, which may be any.
+    pub fn from_bytes(sheet: Vec<u8>) -> Result<Ticket, Refused> {
+        let mut px = vec![0; sheet::pixels(&sheet)];
+        let mut scratch = vec![0.0; sheet::scratch_words(&sheet)];
+        answer(raw::paint(&sheet, &mut px, &mut scratch))?;
+        Ok(Ticket { sheet, px, scratch })
+    }
+
+    /// Patches the ticket to a new sheet, which may be any bytes, and returns the box outside which no pixel was altered. The sheets may
+    /// differ in one shape. Refused, the ticket stays as it is.
+    pub fn patch(&mut self, new: Vec<u8>) -> Result<IRect, Refused> {
+        let need = sheet::scratch_words(&new);
+        if self.scratch.len() < need {
+            self.scratch.resize(need, 0.0);
+        }
+        let altered = answer(raw::patch(&self.sheet, &new, &mut self.px, &mut self.scratch))?;
+        self.sheet = new;
+        Ok(altered)
+    }
+
+    /// Alters the sheet by calls of a builder that holds it, and patches the ticket to it. Where a call fails, nothing is patched.
+    pub fn edit<T>(&mut self, alter: impl FnOnce(&mut SheetBuilder) -> Result<T, SheetError>) -> Result<IRect, Error> {
+        let mut builder = self.builder();
+        alter(&mut builder)?;
+        Ok(self.patch(builder.bytes())?)
+    }
+
+    /// Puts a shape in the place of the shape of an index, counted from 0.
+    pub fn replace(&mut self, index: usize, shape: Shape) -> Result<IRect, Error> {
+        self.edit(|b| b.replace(index, &shape))
+    }
+
+    /// A builder that holds the ticket's sheet.
+    pub fn builder(&self) -> SheetBuilder {
+        SheetBuilder::of_accepted(&self.sheet)
+    }
+
+    /// The sheet's bytes.
+    pub fn sheet(&self) -> &[u8] {
+        &self.sheet
+    }
+
+    /// The pixels, row by row, each 0x00RRGGBB.
+    pub fn px(&self) -> &[u32] {
+        &self.px
+    }
+
+    /// The canvas's width.
+    pub fn width(&self) -> usize {
+        u16::from_le_bytes([self.sheet[0], self.sheet[1]]).into()
+    }
+
+    /// The canvas's height.
+    pub fn height(&self) -> usize {
+        u16::from_le_bytes([self.sheet[2], self.sheet[3]]).into()
+    }
+
+    /// The picture as a PPM file.
+    pub fn to_ppm(&self) -> Vec<u8> {
+        to_ppm(self.width(), &self.px)
+    }
+}
+
+/// Pixels, rows of so many, as a PPM file. A last row that is not whole is left out.
+pub fn to_ppm(width: usize, px: &[u32]) -> Vec<u8> {
+    let rows = px.chunks_exact(width.max(1));
+    let mut file = format!("P6\n{width} {}\n255\n", rows.len()).into_bytes();
+    file.extend(rows.flatten().flat_map(|p| [(p >> 16) as u8, (p >> 8) as u8, *p as u8]));
+    file
+}
+
+#[cfg(test)]
+mod tests {
+    use super::*;
+    use crate::{Color, Pt, Rect};
+
+    /// The scratch lent is the least that is not refused.
+    #[test]
+    fn scratch_is_just_enough() {
+        for (x, y) in [(2.0, 2.0), (3.5, 0.25), (40.0, 7.0), (-3.5, 9.0), (1994.0, 1998.0)] {
+            let mut b = SheetBuilder::new(4, 4, Color::BLACK).unwrap();
+            b.fill_poly(&[Pt::new(0.0, 0.0), Pt::new(x, 0.0), Pt::new(x, y)], Color::WHITE).unwrap();
+            b.fill_rect(Rect::new(0.0, 0.0, 1.0, 1.0), Color::WHITE).unwrap();
+            let (bytes, mut px) = (b.bytes(), vec![0; 16]);
+            let need = sheet::scratch_words(&bytes);
+            assert!(need > 0);
+            assert_eq!(raw::paint(&bytes, &mut px, &mut vec![f32::NAN; need]).number, 0);
+            assert_eq!(raw::paint(&bytes, &mut px, &mut vec![f32::NAN; need - 1]).number, Refusal::Scratch.number());
+        }
+    }
+
+    #[test]
+    fn wrong_pixels_are_refused() {
+        let sheet = SheetBuilder::new(4, 1, Color::BLACK).unwrap().bytes();
+        let reply = raw::paint(&sheet, &mut [0; 3], &mut []);
+        assert_eq!(answer(reply), Err(Refused { refusal: Refusal::Pixels, item: 0 }));
+        assert_eq!(answer(raw::paint(&sheet, &mut [0; 4], &mut [])), Ok(IRect::new(0, 0, 4, 1)));
+    }
+}
