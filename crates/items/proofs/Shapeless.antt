@@ -21,8 +21,13 @@ pub no-shape : (b : List ℕ) → ((((Unit {0} × (kindAt b 0 ≡ 3 → ⊥)) ×
     → noBox ≡ reachOf b (itemOf b)
 unfolding readItem reachOf
 no-shape b other =
-    rw (ne-eqb (kindAt b 0) 3 (other .0 .0 .0 .0 .1), ne-eqb (kindAt b 0) 4 (other .0 .0 .0 .1), ne-eqb (kindAt b 0) 5 (other .0 .0 .1),
-      ne-eqb (kindAt b 0) 6 (other .0 .1), ne-eqb (kindAt b 0) 7 (other .1))
+    rw (
+      ne-eqb (kindAt b 0) 3 (other .0 .0 .0 .0 .1),
+      ne-eqb (kindAt b 0) 4 (other .0 .0 .0 .1),
+      ne-eqb (kindAt b 0) 5 (other .0 .0 .1),
+      ne-eqb (kindAt b 0) 6 (other .0 .1),
+      ne-eqb (kindAt b 0) 7 (other .1),
+    )
     (go (eqb (kindAt b 0) 1) (eqb (kindAt b 0) 2))
   where
     go : (p q : Bool) → noBox ≡ reachOf b (cond p (Push (readRect b 4)) (cond q Pop Unknown))

@@ -144,8 +144,14 @@ module _ (b : List ℕ) (count : ℕ) (paint : Paint) (ok : leb count 64 && floa
       → polyNumber c (length px) (pointsOf b count) paint words ≡ 0
   unfolding polyNumber pointsNumber
   poly-accepted c px words o h =
-      rw (o .valid, eq-eqb (length px) (areaOf (c .w) (c .h)) (o .count), points, coords, and-right (leb count 64 && floats b 32 (2 * count)) _ ok,
-        le-leb (polyNeed (pointsOf b count)) words (rw (need-in _ poly-ok) at h))
+      rw (
+        o .valid,
+        eq-eqb (length px) (areaOf (c .w) (c .h)) (o .count),
+        points,
+        coords,
+        and-right (leb count 64 && floats b 32 (2 * count)) _ ok,
+        le-leb (polyNeed (pointsOf b count)) words (rw (need-in _ poly-ok) at h),
+      )
 
 module _ (b : List ℕ) (c : Canvas) (px : List ℕ) (o : Open c (length px)) (scratch : List Float) where
   -- px, by the item that the bytes are

@@ -34,7 +34,14 @@ fn state_after(item: Item, canvas: Canvas) -> Canvas
 }
 
 // Draws a polygon of so many points, whose coordinates stand in its bytes.
-fn draw_poly(b: &[u8], count: usize, paint: Paint, canvas: Canvas, px: &mut [u32], scratch: &mut [f32])
+fn draw_poly(
+    b: &[u8],
+    count: usize,
+    paint: Paint,
+    canvas: Canvas,
+    px: &mut [u32],
+    scratch: &mut [f32],
+)
     ensures { λ _. ⌜ Left (polyPx (now (b .entry)) count paint canvas (now (px .entry)) (length (now (scratch .entry)))) (polyScratch (now (b .entry)) count paint canvas (length (now (px .entry))) (now (scratch .entry))) (now (px .exit)) (now (scratch .exit)) ⌝ }
 {
     if count > 64 {

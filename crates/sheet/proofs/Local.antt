@@ -84,7 +84,7 @@ paint-room kind =
     (λ h1. least 2 kind h1 (paint-room-is 2 (record { zero = omega arith; float = omega arith }) kind)
     (λ h2. least 3 kind h2 (paint-room-is 3 (record { zero = omega arith; float = omega arith }) kind)
     (λ h3. rw (ne-eqb kind 0 (λ e. omega arith), ne-eqb kind 1 (λ e. omega arith), ne-eqb kind 2 (λ e. omega arith), ne-eqb kind 3 (λ e. omega arith))
-      (record { zero = omega arith; float = omega arith })))))
+    (record { zero = omega arith; float = omega arith })))))
 
 module _ (s : List ℕ) (at len : ℕ) where
   abbrev own : List ℕ
@@ -98,8 +98,12 @@ module _ (s : List ℕ) (at len : ℕ) where
 
   float-same : (p : ℕ) → p + 4 ≤ len → floatOkAt own p ≡ floatOkAt s (at + p)
   float-same p h =
-      rw (byte p (at + p) refl (omega arith), byte (p + 1) (at + p + 1) (omega arith) (omega arith),
-        byte (p + 2) (at + p + 2) (omega arith) (omega arith), byte (p + 2 + 1) (at + p + 2 + 1) (omega arith) (omega arith))
+      rw (
+        byte p (at + p) refl (omega arith),
+        byte (p + 1) (at + p + 1) (omega arith) (omega arith),
+        byte (p + 2) (at + p + 2) (omega arith) (omega arith),
+        byte (p + 2 + 1) (at + p + 2 + 1) (omega arith) (omega arith),
+      )
 
   zeros-same : (p q n : ℕ) → at + p ≡ q → p + n ≤ len → zeros own p n ≡ zeros s q n
   zeros-same p q n e h = all-shift (zeroAt own) (zeroAt s) at 1 len zero-same n p q e (omega arith)
@@ -112,8 +116,11 @@ module _ (s : List ℕ) (at len : ℕ) where
   unfolding paintBytesOk
   paint-bytes p q e h =
       let r = paint-room (byteAt s q) in
-      rw (byte p q e (omega arith), zeros-same (p + 1) (q + 1) 3 (omega arith) (omega arith),
-        zeros-same (p + paintLayout (byteAt s q) .zero) (q + paintLayout (byteAt s q) .zero) (paintLayout (byteAt s q) .zeros) (omega arith) (omega (arith, r .zero)))
+      rw (
+        byte p q e (omega arith),
+        zeros-same (p + 1) (q + 1) 3 (omega arith) (omega arith),
+        zeros-same (p + paintLayout (byteAt s q) .zero) (q + paintLayout (byteAt s q) .zero) (paintLayout (byteAt s q) .zeros) (omega arith) (omega (arith, r .zero)),
+      )
 
   paint-floats : (p q : ℕ) → at + p ≡ q → p + 28 ≤ len → paintFloatsOk own p ≡ paintFloatsOk s q
   unfolding paintFloatsOk
@@ -157,19 +164,28 @@ module _ (s : List ℕ) (k : ℕ) (a : AcceptedItem s k) where
   with-paint test same =
       split (eqb (f .paint) 0) (λ t. (t || test (bytesAt s k) (f .paint)) ≡ (t || test s (at + f .paint))) (λ e. refl)
       (λ e. same (f .paint) (at + f .paint) refl
-        (omega (arith, room .paint (omega (arith, eqb-false (f .paint) 0 e)), length-is s k a)))
+      (omega (arith, room .paint (omega (arith, eqb-false (f .paint) 0 e)), length-is s k a)))
 
   pub bytes-same : bytesOk (bytesAt s k) 0 ≡ bytesOk s at
   unfolding bytesOk
   bytes-same =
-      rw (layout-same, kind-same, zero-add (f .zero), zero-add (f .paint),
+      rw (
+        layout-same,
+        kind-same,
+        zero-add (f .zero),
+        zero-add (f .paint),
         zeros-same s at len (f .zero) (at + f .zero) (f .zeros) refl (omega (arith, room .zero, length-is s k a)),
         byte s at len 1 (at + 1) refl (omega (arith, long)),
-        with-paint paintBytesOk (paint-bytes s at len))
+        with-paint paintBytesOk (paint-bytes s at len),
+      )
 
   pub floats-same-item : floatsOk (bytesAt s k) 0 ≡ floatsOk s at
   unfolding floatsOk
   floats-same-item =
-      rw (layout-same, zero-add (f .float), zero-add (f .paint),
+      rw (
+        layout-same,
+        zero-add (f .float),
+        zero-add (f .paint),
         floats-same s at len (f .float) (at + f .float) (f .floats) refl (omega (arith, room .float, length-is s k a)),
-        with-paint paintFloatsOk (paint-floats s at len))
+        with-paint paintFloatsOk (paint-floats s at len),
+      )

@@ -17,7 +17,7 @@ new-requires c κs = tt
 
 returns : tie.Need-returns
 unfolding canvas
-returns c = 
+returns c =
     let w = c .before .before .side in
     let h = c .before .side2 in
     simp (kept (w .result) (w .ok), kept (h .result) (h .ok)) at (c .new .ensures) ∙ rw (w .ensures, h .ensures)

@@ -24,7 +24,7 @@ same-length-2 c = search needs
 
 returns : tie.Need-returns
 unfolding drawnAll
-returns c = 
+returns c =
     let f = c .before .before .before .before .before .before .before .before .before .before .before .before .first-state .ensures in
     let g = c .before .before .before .before .before .before .before .before .before .before .ground .ensures in
     let k = c .before .before .before .before .before .before .before .before .before .clear .ensures .paints in

@@ -15,7 +15,7 @@ state-in-requires : tie.Need-state-in-requires
 state-in-requires c κs = tt
 
 returns : tie.Need-returns
-returns c = 
+returns c =
     let w = c .before .before .side in
     let h = c .before .side2 in
     simp (kept (w .result) (w .ok), kept (h .result) (h .ok)) at (c .state-in .ensures) ∙ rw (w .ensures, h .ensures)

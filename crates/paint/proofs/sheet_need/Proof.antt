@@ -43,7 +43,7 @@ loop-again c =
     (sym (need-turn _ n (l .k) (l .most) _ (c .before .before .loop-test .taken) more) ∙ l .inv .0, omega arith)
 
 returns : tie.Need-returns Inv-loop μ-loop
-returns c = 
+returns c =
     let l = c .before .loop in
     let u = c .before .before .u16-at in
     rw (← (u .ensures .0)) (sym (need-done _ (u .result) (l .k) (l .most) (c .loop-test .left)) ∙ l .inv .0)

@@ -15,7 +15,7 @@ refusal-requires : tie.Need-refusal-requires
 refusal-requires c κs = tt
 
 returns : tie.Need-returns
-returns c = 
+returns c =
     let a = c .before .before .before .before .before .before .before .args in
     let v = c .before .before .check-sheet in
     does-refused zeroWord format (a .px .now) (a .scratch .now) _ (v .result .number) (v .result .item) _
@@ -29,7 +29,7 @@ refusal-requires-2 : tie.Need-refusal-requires-2
 refusal-requires-2 c κs = tt
 
 returns-2 : tie.Need-returns-2
-returns-2 c = 
+returns-2 c =
     let a = c .before .before .before .before .before .before .before .before .before .args in
     let v = c .before .before .check-sheet2 in
     let ok = clean (a .old .now) (sym (ap (λ (r : Verdict). r .number) (c .before .before .before .before .check-sheet .ensures)) ∙ c .before .before .before .if1 .left) in
@@ -38,7 +38,7 @@ returns-2 c =
     (c .refusal2 .ensures)
 
 patch-read-requires : tie.Need-patch-read-requires
-patch-read-requires c κs = 
+patch-read-requires c κs =
     record {
       first = clean _ (sym (ap (λ (r : Verdict). r .number) (c .before .before .before .before .before .check-sheet .ensures)) ∙ c .before .before .before .before .if1 .left);
       second = clean _ (sym (ap (λ (r : Verdict). r .number) (c .before .before .before .check-sheet2 .ensures)) ∙ c .before .before .if2 .left);

@@ -18,7 +18,7 @@ refusal-requires : tie.Need-refusal-requires
 refusal-requires c κs = tt
 
 returns : tie.Need-returns
-returns c = 
+returns c =
     let a = c .before .before .before .before .before .before .before in
     does-refused zeroWord format (a .args .px .now) (a .args .scratch .now) _ 10 0 _
     (other-header (a .args .old .now) (a .args .new .now) (a .pre .first) (a .pre .second) _ _ (sym (c .before .before .same-header .ensures) ∙ not-true _ (c .before .if1 .taken)))
@@ -31,12 +31,12 @@ refusal-requires-2 : tie.Need-refusal-requires-2
 refusal-requires-2 c κs = tt
 
 returns-2 : tie.Need-returns-2
-returns-2 c = 
+returns-2 c =
     let a = c .before .before .before .before .before .before .before .before .before in
     let d = ap (λ (r : Difference). r .number) (c .before .before .changed .ensures) in
     does-refused zeroWord format (a .args .px .now) (a .args .scratch .now) _ 10 0 _
     (not-allowed (a .args .old .now) (a .args .new .now) (a .pre .first) (a .pre .second) _ _ (sym (c .before .before .before .before .same-header .ensures) ∙ not-false _ (c .before .before .before .if1 .left))
-      (λ z. c .before .if2 .taken (d ∙ z)))
+    (λ z. c .before .if2 .taken (d ∙ z)))
     (c .refusal2 .ensures)
 
 lent-number-requires : tie.Need-lent-number-requires
@@ -46,17 +46,17 @@ refusal-requires-3 : tie.Need-refusal-requires-3
 refusal-requires-3 c κs = tt
 
 returns-3 : tie.Need-returns-3
-returns-3 c = 
+returns-3 c =
     let a = c .before .before .before .before .before .before .before .before .before .before .before in
     let d = ap (λ (r : Difference). r .number) (c .before .before .before .before .changed .ensures) in
     let l = c .before .before .lent-number .ensures in
     does-refused zeroWord format (a .args .px .now) (a .args .scratch .now) _ _ 0 _
     (not-lent (a .args .old .now) (a .args .new .now) (a .pre .first) (a .pre .second) _ _ (sym (c .before .before .before .before .before .before .same-header .ensures) ∙ not-false _ (c .before .before .before .before .before .if1 .left))
-      (sym d ∙ c .before .before .before .if2 .left) (λ z. c .before .if3 .taken (l ∙ z)))
+    (sym d ∙ c .before .before .before .if2 .left) (λ z. c .before .if3 .taken (l ∙ z)))
     (c .refusal3 .ensures ∙ rw l)
 
 draw-in-requires : tie.Need-draw-in-requires
-draw-in-requires c κs = 
+draw-in-requires c κs =
     let a = c .before .before .before .before .before .before .before .before .before .before .before .before .before in
     let e = ap (λ (r : Difference). r .area) (c .before .before .before .before .before .before .changed .ensures) in
     let z = sym (c .before .before .before .before .lent-number .ensures) ∙ c .before .before .before .if3 .left in
@@ -70,7 +70,7 @@ same-length-2 c = search needs
 
 returns-4 : tie.Need-returns-4
 unfolding answer
-returns-4 c = 
+returns-4 c =
     let a = c .before .before .before .before .before .before .before .before .before .before .before .before .before .before .before .before .before .before in
     let e = ap (λ (r : Difference). r .area) (c .before .before .before .before .before .before .before .before .before .before .before .changed .ensures) in
     let d = ap (λ (r : Difference). r .number) (c .before .before .before .before .before .before .before .before .before .before .before .changed .ensures) in

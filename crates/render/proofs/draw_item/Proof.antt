@@ -21,7 +21,7 @@ same-length-2 c = search needs
 
 returns : tie.Need-returns
 unfolding stageAfter
-returns c = 
+returns c =
     let d = c .before .before .before .before .before .draw-shape .ensures in
     let e = c .before .before .before .before .before .before .before .before .item-of .ensures in
     rw (c .state-after .ensures, d .paints, d .clears, e)

@@ -48,7 +48,7 @@ returns-2 c =
     let few : a .count ≤ 64 = c .before .before .before .before .before .before .before .before .before .if1 .left in
     let short : 2 * a .count ≤ 128 = omega arith in
     let pts : take (2 * a .count) (c .before .before .before .before .before .before .before .before .coords .result) ≡ coordsFrom (a .b .now) 32 (2 * a .count) =
-        ap (take (2 * a .count)) (c .before .before .before .before .before .before .before .before .coords .ensures) ∙ coords-take (a .b .now) 32 (2 * a .count) 128 short in
+    ap (take (2 * a .count)) (c .before .before .before .before .before .before .before .before .coords .ensures) ∙ coords-take (a .b .now) 32 (2 * a .count) 128 short in
     rw (le-leb (a .count) 64 few, ← pts) (record { paints = f .called .paints; clears = f .clears })
 
 pub draw-poly-spec : {M : Type 1} → statement M
