@@ -5,7 +5,7 @@ use crate::word::float_of;
 use crate::word::pattern;
 use crate::word::word;
 use geom::Pt;
-use gfx::Paint;
+use paints::Paint;
 ghost use Prim.Native.Nat.{_^_, _<_};
 
 pub(crate) fn float(bytes: &[u8], at: u32) -> f32 {
@@ -54,7 +54,7 @@ fn distance(bytes: &[u8], at: u32) -> u32
     let p = point(bytes, at);
     let c = point(bytes, at + 2);
     let half = point(bytes, at + 4);
-    pattern(gfx::rrect_sd(p.x, p.y, c.x, c.y, half.x, half.y, float(bytes, at + 6)))
+    pattern(paints::rrect_sd(p.x, p.y, c.x, c.y, half.x, half.y, float(bytes, at + 6)))
 }
 
 fn color_at(kind: u32, bytes: &[u8], at: u32) -> u32
@@ -69,7 +69,7 @@ pub(crate) fn agrees(bytes: &[u8], at: u32) -> bool
     requires { ⌜ at < 2 ^ 28 ⌝ }
 {
     let r = match word(bytes, at) {
-        1 => gfx::cov8(float(bytes, at + 1)),
+        1 => paints::cov8(float(bytes, at + 1)),
         2 => distance(bytes, at + 1),
         3 => color_at(0, bytes, at + 1),
         4 => color_at(1, bytes, at + 1),

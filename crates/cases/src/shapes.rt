@@ -18,7 +18,7 @@ use geom::Pt;
 use geom::Rect;
 use gfx::Canvas;
 use gfx::Done;
-use gfx::Paint;
+use paints::Paint;
 ghost use Prim.Native.Nat.{_^_, _<_, _≤_};
 ghost use mathlib.Core.Path.{_≡_};
 ghost use lib.ListN.{length};

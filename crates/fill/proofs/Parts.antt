@@ -20,9 +20,9 @@ use Rattle.draw.specs.Areas.{within, area, drawnIn}
 use Rattle.draw.proofs.Rows.{within-in, within-below, within-above, within-none, within-true, drawn-idle, row-same}
 use Rattle.draw.proofs.Clips.{in-columns}
 use Rattle.draw.proofs.Loops.{row-three}
-use Rattle.gfx.specs.declared.paints.Paint.{Paint}
-use Rattle.gfx.specs.declared.paints.Paint.the-variants.{Solid}
-use Rattle.gfx.specs.Paints.{paintAt, centreOf}
+use Rattle.paints.specs.declared.Paint.{Paint}
+use Rattle.paints.specs.declared.Paint.the-variants.{Solid}
+use Rattle.paints.specs.Paints.{paintAt, centreOf}
 use Rattle.fill.specs.declared.Ends.{Ends}
 use Rattle.fill.specs.Fill.{edgeRow, cornerRow, middle, rimInk, middleInk, roundInk}
 use Rattle.fill.specs.Rows.{endsOf, clampedOf, Cuts}

@@ -13,8 +13,8 @@ use Rattle.color.specs.declared.Color.{Color}
 use Rattle.color.specs.Inks.{blended, coveredBy}
 use Rattle.color.specs.Colours.{rgbaOf}
 use Rattle.draw.specs.Draw.{eachAt, onto, meets, drawn, inColumns}
-use Rattle.gfx.specs.declared.paints.Paint.the-variants.{Solid}
-use Rattle.gfx.specs.Paints.{paintAt, radiusOf, cornerSd, rrectSd, cov8Of}
+use Rattle.paints.specs.declared.Paint.the-variants.{Solid}
+use Rattle.paints.specs.Paints.{paintAt, radiusOf, cornerSd, rrectSd, cov8Of}
 use Rattle.fill.specs.Fill.{fillReach, middle, coverOf, rimInk, middleInk, roundInk, fillInk}
 
 -- a solid rectangle without round corners, drawn on one row of w pixels

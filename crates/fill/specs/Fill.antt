@@ -17,9 +17,9 @@ use Rattle.color.specs.Inks.{over, overC}
 use Rattle.draw.specs.Draw.{drawn, inColumns}
 use Rattle.gfx.specs.declared.Canvas.{Canvas}
 use Rattle.gfx.specs.declared.Done.{Done}
-use Rattle.gfx.specs.declared.paints.Paint.{Paint}
+use Rattle.paints.specs.declared.Paint.{Paint}
 use Rattle.gfx.specs.Calls.{Called, shapeNumber}
-use Rattle.gfx.specs.Paints.{paintAt, paintOk, centreOf, radiusOf, rrectSd, cov8Of}
+use Rattle.paints.specs.Paints.{paintAt, paintOk, centreOf, radiusOf, rrectSd, cov8Of}
 
 -- the pixels around the rectangle; none where it has no width or no height, as the method then returns before it meets the clip
 unfoldable pub fillReach : Rect → IRect

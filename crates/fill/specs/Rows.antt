@@ -10,7 +10,7 @@ use Rattle.geom.specs.declared.Rect.{Rect}
 use Rattle.geom.specs.Int.{up}
 use Rattle.geom.specs.Plane.{cyOf}
 use Rattle.draw.specs.Areas.{within}
-use Rattle.gfx.specs.Paints.{cov8Of}
+use Rattle.paints.specs.Paints.{cov8Of}
 use Rattle.fill.specs.declared.Ends.{Ends}
 use Rattle.fill.specs.declared.Round.{Round}
 use Rattle.fill.specs.declared.Level.{Level}

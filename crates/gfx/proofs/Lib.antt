@@ -6,4 +6,3 @@ pub mod Sizes
 pub mod Coords
 pub mod Kept
 pub mod Fits
-pub mod Covers

@@ -1,6 +1,4 @@
 -- The definitions that gfx's contracts cite.
 pub mod State
 pub mod Calls
-pub mod Paints
 pub mod Points
-pub mod Edges

@@ -1,8 +1,6 @@
 // The canvas: its state, the calls on its clips and pixels, and what its shapes share. A state goes in by value and comes back
 // beside a number; px is lent. A refused call returns the given state and alters nothing.
 mod checks;
-pub mod edges;
-pub mod paints;
 pub mod points;
 
 use crate::checks::area;
@@ -11,15 +9,6 @@ use crate::checks::four_zeros;
 use crate::checks::new_number;
 use crate::checks::raise;
 use crate::checks::side_ok;
-pub use crate::edges::Edge;
-pub use crate::paints::Paint;
-pub use crate::paints::Rounded;
-pub use crate::paints::both_positive;
-pub use crate::paints::centre;
-pub use crate::paints::corner_sd;
-pub use crate::paints::cov8;
-pub use crate::paints::radius;
-pub use crate::paints::rrect_sd;
 pub use crate::points::coords_ok;
 pub use crate::points::points_number;
 pub use crate::points::points_ok;

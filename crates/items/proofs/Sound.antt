@@ -10,7 +10,7 @@ use lib.Dec.{ltb, leb, eqb}
 use borrow.Author.Tests.{leb-true, le-leb, lt-ltb}
 use Rattle.geom.specs.Plane.{floatOk, ptOk, rectOk}
 use Rattle.geom.proofs.Bools.{and-left, and-right, and-both}
-use Rattle.gfx.specs.Paints.{paintOk}
+use Rattle.paints.specs.Paints.{paintOk}
 use Rattle.sheet.specs.Bytes.{byteAt, floatAt, floatOkAt, floats, zeros}
 use Rattle.sheet.specs.Kinds.{kindAt, pointsAt, layoutAt, paintLayout, paintBytesOk, bytesOk, paintFloatsOk, floatsOk, depthAfter}
 use Rattle.sheet.specs.Check.{bytesAt}

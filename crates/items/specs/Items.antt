@@ -12,8 +12,8 @@ use Rattle.geom.specs.declared.Rect.{Rect}
 use Rattle.geom.specs.Plane.{ptOf, rectOf}
 use Rattle.color.specs.declared.Color.{Color}
 use Rattle.color.specs.Colours.{rgbOf, rgbaOf}
-use Rattle.gfx.specs.declared.paints.Paint.{Paint}
-use Rattle.gfx.specs.declared.paints.Paint.the-variants.{Solid, VGrad, Linear, Radial}
+use Rattle.paints.specs.declared.Paint.{Paint}
+use Rattle.paints.specs.declared.Paint.the-variants.{Solid, VGrad, Linear, Radial}
 use Rattle.sheet.specs.Bytes.{byteAt, floatAt, lookup}
 use Rattle.sheet.specs.Kinds.{kindAt, pointsAt}
 use Rattle.sheet.specs.Check.{countOf, offsetOf, lengthOf, bytesAt}

@@ -2,7 +2,7 @@
 use color::Color;
 use geom::Pt;
 use geom::Rect;
-use gfx::Paint;
+use paints::Paint;
 use sheet::byte_at;
 use sheet::f32_at;
 use sheet::u16_at;

@@ -10,7 +10,7 @@ use Rattle.geom.specs.declared.IRect.{IRect}
 use Rattle.geom.specs.Plane.{rectOf, outerOf, floatOk, ptOk}
 use Rattle.color.specs.declared.Color.{Color}
 use Rattle.color.specs.Inks.{overC}
-use Rattle.gfx.specs.Paints.{centreOf, cov8Of}
+use Rattle.paints.specs.Paints.{centreOf, cov8Of}
 use Rattle.line.specs.declared.Segment.{Segment}
 
 -- `.abs()`, which clears the sign

@@ -16,9 +16,9 @@ use Rattle.geom.proofs.Bools.{and-right}
 use Rattle.draw.specs.Draw.{drawn}
 use Rattle.gfx.specs.Calls.{unless}
 use Rattle.gfx.specs.Points.{pointsOk, pointsNumber}
-use Rattle.gfx.specs.Paints.{paintOk}
+use Rattle.paints.specs.Paints.{paintOk}
 use Rattle.gfx.specs.declared.Canvas.{Canvas}
-use Rattle.gfx.specs.declared.paints.Paint.{Paint}
+use Rattle.paints.specs.declared.Paint.{Paint}
 use Rattle.gfx.proofs.Answers.{refused-call, accepted-call}
 use Rattle.gfx.proofs.Sizes.{Open}
 use Rattle.gfx.proofs.Valid.{side-of, valid-of}

@@ -21,9 +21,9 @@ use Rattle.color.specs.Inks.{overC}
 use Rattle.color.proofs.Overs.{overC-none}
 use Rattle.draw.specs.Areas.{area, areaOf, clipTo}
 use Rattle.draw.specs.declared.Area.{Area}
-use Rattle.gfx.specs.Paints.{paintAt, centreOf}
-use Rattle.gfx.specs.declared.paints.Paint.{Paint}
-use Rattle.gfx.specs.declared.paints.Paint.the-variants.{Solid, VGrad, Linear, Radial}
+use Rattle.paints.specs.Paints.{paintAt, centreOf}
+use Rattle.paints.specs.declared.Paint.{Paint}
+use Rattle.paints.specs.declared.Paint.the-variants.{Solid, VGrad, Linear, Radial}
 use Rattle.poly.specs.Poly.{offsetOf, runSum, coverOf, inkIn, areaAt, reachOf}
 use Rattle.poly.specs.Rooms.{Over, inkFrom, levelOf}
 use Rattle.poly.specs.declared.bounds.PolyBox.{PolyBox}

@@ -21,10 +21,10 @@ use Rattle.color.specs.Inks.{overC}
 use Rattle.draw.specs.Draw.{drawn}
 use Rattle.gfx.specs.Calls.{unless, Called}
 use Rattle.gfx.specs.Points.{pointsOk, coordsOk, pointsNumber}
-use Rattle.gfx.specs.Paints.{paintAt, paintOk, centreOf}
+use Rattle.paints.specs.Paints.{paintAt, paintOk, centreOf}
 use Rattle.gfx.specs.declared.Canvas.{Canvas}
 use Rattle.gfx.specs.declared.Done.{Done}
-use Rattle.gfx.specs.declared.paints.Paint.{Paint}
+use Rattle.paints.specs.declared.Paint.{Paint}
 use Rattle.poly.specs.Lines.{lineAccum}
 use Rattle.poly.specs.declared.bounds.Extent.{Extent}
 use Rattle.poly.specs.declared.bounds.PolyBox.{PolyBox}

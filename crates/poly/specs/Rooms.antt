@@ -10,9 +10,9 @@ use lib.ListN.{length}
 use lib.Ieee.{Float}
 use Rattle.color.specs.Inks.{overC}
 use Rattle.gfx.specs.Points.{coordsOk}
-use Rattle.gfx.specs.Paints.{paintAt, centreOf}
-use Rattle.gfx.specs.declared.paints.Paint.{Paint}
-use Rattle.gfx.specs.declared.paints.Paint.the-variants.{Solid, VGrad, Linear, Radial}
+use Rattle.paints.specs.Paints.{paintAt, centreOf}
+use Rattle.paints.specs.declared.Paint.{Paint}
+use Rattle.paints.specs.declared.Paint.the-variants.{Solid, VGrad, Linear, Radial}
 use Rattle.poly.specs.Poly.{pointCount, polyBox, painted, needOf, offsetOf, runSum, coverOf}
 use Rattle.poly.specs.declared.bounds.PolyBox.{PolyBox}
 use Rattle.poly.specs.declared.bounds.Plan.{Plan}

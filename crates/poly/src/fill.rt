@@ -5,7 +5,7 @@ use crate::outline::accumulate;
 use crate::outline::clear;
 use crate::rows::draw_box;
 use geom::IRect;
-use gfx::Paint;
+use paints::Paint;
 ghost use mathlib.Core.Path.{_≡_};
 ghost use mathlib.Core.Bool.{true, cond};
 ghost use Prim.Native.Nat.{_≤_};

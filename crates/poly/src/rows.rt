@@ -7,18 +7,18 @@ use draw::Area;
 use draw::clipped;
 use geom::IRect;
 use geom::nat_of;
-use gfx::Paint;
-use gfx::centre;
+use paints::Paint;
+use paints::centre;
 ghost use mathlib.Core.Path.{_≡_};
 ghost use Prim.Native.Nat.{_+_, _-_, _≤_};
 ghost use lib.IntN.{natAbs};
 ghost use lib.ListN.{length};
 ghost use Rattle.color.specs.Inks.{overC};
-ghost use Rattle.gfx.specs.Paints.{paintAt, centreOf};
+ghost use Rattle.paints.specs.Paints.{paintAt, centreOf};
 ghost use Rattle.draw.specs.Areas.{drawnIn, area, clipTo, RowFits, AreaFits};
 ghost use Rattle.poly.specs.Poly.{runSum, offsetOf, coverOf, inkIn, reachOf};
 ghost use Rattle.poly.specs.Rooms.{Room, Near, Over, inkFrom, levelOf};
-ghost use Rattle.gfx.specs.declared.paints.Paint.the-variants.{Solid};
+ghost use Rattle.paints.specs.declared.Paint.the-variants.{Solid};
 
 // A signed area as a coverage, 0 to 255. Most of a box lies outside the polygon: there nothing is converted.
 fn cover(a: f32) -> u32

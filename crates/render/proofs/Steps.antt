@@ -18,9 +18,9 @@ use Rattle.draw.specs.Draw.{drawn}
 use Rattle.gfx.specs.State.{validOf, pushed, unsaved, popped}
 use Rattle.gfx.specs.Calls.{areaOf, answer, left, stateNumber, pushNumber, shapeNumber}
 use Rattle.gfx.specs.Points.{pointsOk, coordsOk, pointsNumber}
-use Rattle.gfx.specs.Paints.{paintOk}
+use Rattle.paints.specs.Paints.{paintOk}
 use Rattle.gfx.specs.declared.Canvas.{Canvas}
-use Rattle.gfx.specs.declared.paints.Paint.{Paint}
+use Rattle.paints.specs.declared.Paint.{Paint}
 use Rattle.gfx.proofs.Kept.{Sound, push-clip-sound, pop-sound}
 use Rattle.gfx.proofs.Sizes.{Open}
 use Rattle.line.specs.Lines.{lineOk}

@@ -14,7 +14,7 @@ use Rattle.draw.specs.Draw.{drawn}
 use Rattle.gfx.specs.State.{pushed, popped}
 use Rattle.gfx.specs.Calls.{answer, left, stateNumber, pushNumber, shapeNumber}
 use Rattle.gfx.specs.declared.Canvas.{Canvas}
-use Rattle.gfx.specs.declared.paints.Paint.{Paint}
+use Rattle.paints.specs.declared.Paint.{Paint}
 use Rattle.fill.specs.Fill.{fillReach, fillInk, rrectFloats}
 use Rattle.stroke.specs.Stroke.{strokeReach, strokeInk, strokeOk}
 use Rattle.line.specs.Lines.{lineReach, lineInk, lineOk}

@@ -1,12 +1,12 @@
 // Drawing the items of a sheet on a canvas, one after the other.
 use fill::fill_rrect;
 use gfx::Canvas;
-use gfx::Paint;
 use items::Item;
 use items::coords;
 use items::item_of;
 use items::part_at;
 use line::line;
+use paints::Paint;
 use poly::fill_poly;
 use shadow::shadow_rrect;
 use sheet::u16_at;

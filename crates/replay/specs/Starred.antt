@@ -16,8 +16,8 @@ use Rattle.color.specs.Inks.{blended, coveredBy, over, overC}
 use Rattle.color.specs.Colours.{rgbaOf}
 use Rattle.color.specs.Examples.{ink-127, ink-128, red-128, alpha-0, alpha-1, cover-128}
 use Rattle.draw.specs.Draw.{eachAt, onto, meets, drawn, inColumns}
-use Rattle.gfx.specs.Paints.{paintAt, radiusOf, cornerSd, rrectSd, cov8Of}
-use Rattle.gfx.specs.declared.paints.Paint.the-variants.{Solid}
+use Rattle.paints.specs.Paints.{paintAt, radiusOf, cornerSd, rrectSd, cov8Of}
+use Rattle.paints.specs.declared.Paint.the-variants.{Solid}
 use Rattle.fill.specs.Examples.{half-white-and-red}
 use Rattle.fill.specs.Fill.{fillReach, middle, coverOf, rimInk, middleInk, roundInk, fillInk}
 use Rattle.sheet.specs.Bytes.{allAt}

@@ -15,7 +15,7 @@ use Rattle.mathf.specs.Root.{sqrtOf}
 use Rattle.mathf.proofs.Compared.{le-same, le-through, or-l}
 use Rattle.mathf.proofs.Monotone.{mul-mono, sqrt-mono}
 use Rattle.mathf.proofs.Saturating.{passed}
-use Rattle.gfx.proofs.Covers.{finite-between, sum-above}
+use Rattle.paints.proofs.Covers.{finite-between, sum-above}
 use Rattle.shadow.specs.Shadow.{stepsOut, alphaOf}
 use Rattle.shadow.specs.Spans.{Faded}
 

@@ -11,7 +11,7 @@ use Rattle.draw.specs.Draw.{inColumns}
 use Rattle.draw.specs.Areas.{drawnIn, area}
 use Rattle.draw.proofs.Loops.{row-clamped}
 use Rattle.draw.proofs.Clips.{in-columns}
-use Rattle.gfx.specs.Paints.{centreOf}
+use Rattle.paints.specs.Paints.{centreOf}
 use Rattle.shadow.specs.declared.Shade.{Shade}
 use Rattle.shadow.specs.Shadow.{alphaOf, rowDy, rowQy, straightFrom, straightUpto, straightMiddle, cornerFrom, cornerUpto, straightAlpha, cornerAlpha, shadeInk}
 use Rattle.shadow.specs.Spans.{flatInk, straightInk, cornerInk, straightRowInk, cornerRowInk}

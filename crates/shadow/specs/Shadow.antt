@@ -18,8 +18,8 @@ use Rattle.geom.specs.Plane.{insetOf, outerOf, floatOk, rectOk}
 use Rattle.color.specs.declared.Color.{Color}
 use Rattle.color.specs.Inks.{over}
 use Rattle.draw.specs.Draw.{inColumns}
-use Rattle.gfx.specs.declared.paints.Rounded.{Rounded}
-use Rattle.gfx.specs.Paints.{centreOf, roundedOf}
+use Rattle.paints.specs.declared.Rounded.{Rounded}
+use Rattle.paints.specs.Paints.{centreOf, roundedOf}
 
 -- the floats given are finite and within 8,192 of 0
 abbrev pub shadowOk : Rect → Float → Float → Bool

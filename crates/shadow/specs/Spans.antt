@@ -11,8 +11,8 @@ use Rattle.mathf.specs.Root.{sqrtOf}
 use Rattle.mathf.specs.Convert.{toUsize}
 use Rattle.color.specs.declared.Color.{Color}
 use Rattle.color.specs.Inks.{over}
-use Rattle.gfx.specs.declared.paints.Rounded.{Rounded}
-use Rattle.gfx.specs.Paints.{centreOf}
+use Rattle.paints.specs.declared.Rounded.{Rounded}
+use Rattle.paints.specs.Paints.{centreOf}
 use Rattle.shadow.specs.declared.Shade.{Shade}
 use Rattle.shadow.specs.Shadow.{levelOf, table, alphaOf, straightSide, cornerSide, straightAlpha, cornerAlpha}
 

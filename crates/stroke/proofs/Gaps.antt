@@ -11,8 +11,8 @@ use Rattle.draw.specs.Areas.{drawnIn, area, within}
 use Rattle.draw.proofs.Rows.{row-same, drawn-idle}
 use Rattle.draw.proofs.Loops.{row-clamped}
 use Rattle.draw.proofs.Clips.{in-columns}
-use Rattle.gfx.specs.declared.paints.Rounded.{Rounded}
-use Rattle.gfx.specs.Paints.{centreOf}
+use Rattle.paints.specs.declared.Rounded.{Rounded}
+use Rattle.paints.specs.Paints.{centreOf}
 use Rattle.stroke.specs.Stroke.{fullRow, gapFrom, gapUpto, inGap, bandInk, outlineInk}
 
 module _ (s : Rounded) (width : Float) (c : Color) (y : ℕ) where

@@ -3,7 +3,7 @@ use mathlib.Core.Path.{_≡_}
 use lib.Ieee.{Float}
 use Rattle.mathf.specs.F32.{_-ᶠ_}
 use Rattle.mathf.specs.Order.{fabsOf}
-use Rattle.gfx.specs.declared.paints.Rounded.{Rounded}
+use Rattle.paints.specs.declared.Rounded.{Rounded}
 use Rattle.stroke.specs.declared.Level.{Level}
 use Rattle.stroke.specs.Stroke.{bandCover}
 

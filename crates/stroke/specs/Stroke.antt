@@ -15,8 +15,8 @@ use Rattle.geom.specs.Plane.{noArea, outerOf, floatOk, rectOk}
 use Rattle.color.specs.declared.Color.{Color}
 use Rattle.color.specs.Inks.{overC}
 use Rattle.draw.specs.Draw.{inColumns}
-use Rattle.gfx.specs.declared.paints.Rounded.{Rounded}
-use Rattle.gfx.specs.Paints.{centreOf, roundedOf, roundedSd}
+use Rattle.paints.specs.declared.Rounded.{Rounded}
+use Rattle.paints.specs.Paints.{centreOf, roundedOf, roundedSd}
 
 -- the floats given are finite and within 8,192 of 0
 abbrev pub strokeOk : Rect → Float → Float → Bool

@@ -1,5 +1,5 @@
 -- `fill::colour_at` meets its contract. Assumes nothing.
-use Rattle.gfx.specs.Paints.{paintAt}
+use Rattle.paints.specs.Paints.{paintAt}
 use borrow.Author.Needs.{needs}
 use Rattle.fill.proofs.colour_at.Statement.{statement}
 use Rattle.fill.proofs.colour_at.Tie as tie

@@ -1,7 +1,7 @@
 -- `fill::cut_row` meets its contract. Assumes nothing.
 use mathlib.Core.Path.{_≡_, sym, _∙_}
 use mathlib.Core.Bool.{true, false}
-use Rattle.gfx.specs.Paints.{centreOf}
+use Rattle.paints.specs.Paints.{centreOf}
 use Rattle.fill.specs.Fill.{edgeRow, cornerRow}
 use Rattle.fill.proofs.Parts.{cut-edge, cut-between}
 use borrow.Author.Needs.{needs}

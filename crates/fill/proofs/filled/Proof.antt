@@ -8,7 +8,7 @@ use Rattle.draw.proofs.Clips.{drawn-clip}
 use Rattle.gfx.proofs.Answers.{refused-call, accepted-call}
 use Rattle.gfx.proofs.Sizes.{shape-open}
 use Rattle.gfx.proofs.Fits.{canvas-fits}
-use Rattle.gfx.specs.Paints.{radiusOf}
+use Rattle.paints.specs.Paints.{radiusOf}
 use Rattle.fill.specs.Fill.{fillReach}
 use Rattle.fill.specs.Rows.{roundOf}
 use borrow.Author.Needs.{needs}

@@ -1,8 +1,8 @@
 -- `fill::level_cover` meets its contract. Assumes nothing.
 use mathlib.Core.Path.{_∙_}
 use borrow.Author.Needs.{needs}
-use Rattle.gfx.specs.Paints.{rrectSd}
-use Rattle.gfx.proofs.Covers.{own}
+use Rattle.paints.specs.Paints.{rrectSd}
+use Rattle.paints.proofs.Covers.{own}
 use Rattle.fill.specs.Fill.{coverOf}
 use Rattle.fill.proofs.level_cover.Statement.{statement}
 use Rattle.fill.proofs.level_cover.Tie as tie

@@ -2,8 +2,8 @@
 use Prim.Native.Nat.{_-_}
 use native.Mathlib.Omega.{arith}
 use Rattle.draw.proofs.Loops.{InRow, row-start, row-next, row-end}
-use Rattle.gfx.specs.declared.paints.Paint.the-variants.{Solid}
-use Rattle.gfx.specs.Paints.{paintAt}
+use Rattle.paints.specs.declared.Paint.the-variants.{Solid}
+use Rattle.paints.specs.Paints.{paintAt}
 use Rattle.fill.specs.Fill.{middleInk}
 use Rattle.fill.proofs.over_span.Statement.{statement}
 use Rattle.fill.proofs.over_span.Tie as tie

@@ -2,7 +2,7 @@
 use mathlib.Core.Path.{sym, subst, _∙_}
 use borrow.Author.Needs.{needs}
 use lib.Ieee.{Float}
-use Rattle.gfx.specs.Edges.{Sure}
+use Rattle.paints.specs.Edges.{Sure}
 use Rattle.line.specs.Lines.{coverOf}
 use Rattle.line.proofs.cover.Statement.{statement}
 use Rattle.line.proofs.cover.Tie as tie

@@ -4,7 +4,7 @@ use Prim.Native.Nat.{_-_}
 use native.Mathlib.Omega.{arith}
 use Rattle.color.proofs.Overs.{overC-none}
 use Rattle.draw.proofs.Loops.{InRow, row-start, row-next, row-pass, row-end}
-use Rattle.gfx.specs.Paints.{centreOf}
+use Rattle.paints.specs.Paints.{centreOf}
 use Rattle.line.specs.Lines.{coverOf, segmentInk}
 use Rattle.line.proofs.segment_row.Statement.{statement}
 use Rattle.line.proofs.segment_row.Tie as tie

@@ -4,7 +4,7 @@ use lib.ListN.{length}
 use Rattle.geom.specs.Int.{up}
 use Rattle.draw.specs.Areas.{clipTo, AreaFits}
 use Rattle.draw.proofs.Clips.{drawn-clip}
-use Rattle.gfx.specs.Paints.{paintOk}
+use Rattle.paints.specs.Paints.{paintOk}
 use Rattle.gfx.specs.Points.{pointsNumber}
 use Rattle.gfx.proofs.Coords.{OpenPoints, points-open}
 use Rattle.gfx.proofs.Fits.{canvas-fits}

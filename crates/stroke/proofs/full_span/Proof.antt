@@ -4,7 +4,7 @@ use Prim.Native.Nat.{_-_}
 use native.Mathlib.Omega.{arith}
 use Rattle.color.proofs.Overs.{overC-idle}
 use Rattle.draw.proofs.Loops.{InRow, row-start, row-next, row-pass, row-end}
-use Rattle.gfx.specs.Paints.{centreOf, roundedSd}
+use Rattle.paints.specs.Paints.{centreOf, roundedSd}
 use Rattle.stroke.specs.Stroke.{bandCover, bandInk}
 use Rattle.stroke.proofs.full_span.Statement.{statement}
 use Rattle.stroke.proofs.full_span.Tie as tie

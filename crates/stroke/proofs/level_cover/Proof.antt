@@ -1,7 +1,7 @@
 -- `stroke::level_cover` meets its contract. Assumes nothing.
 use mathlib.Core.Path.{_∙_}
 use borrow.Author.Needs.{needs}
-use Rattle.gfx.specs.Paints.{cornerSd, rrectSd}
+use Rattle.paints.specs.Paints.{cornerSd, rrectSd}
 use Rattle.stroke.proofs.level_cover.Statement.{statement}
 use Rattle.stroke.proofs.level_cover.Tie as tie
 

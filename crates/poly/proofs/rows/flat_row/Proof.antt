@@ -4,8 +4,8 @@ use Prim.Native.Nat.{_+_, _-_, _*_}
 use native.Mathlib.Omega.{arith}
 use Rattle.draw.proofs.Loops.{InRow, row-start, row-next, row-pass, row-end}
 use Rattle.poly.specs.Poly.{runSum}
-use Rattle.gfx.specs.Paints.{paintAt}
-use Rattle.gfx.specs.declared.paints.Paint.the-variants.{Solid}
+use Rattle.paints.specs.Paints.{paintAt}
+use Rattle.paints.specs.declared.Paint.the-variants.{Solid}
 use Rattle.poly.specs.Rooms.{inkFrom}
 use Rattle.poly.proofs.Spans.{turn-sum, ink-by, ink-none}
 use lib.ListN.{getD}

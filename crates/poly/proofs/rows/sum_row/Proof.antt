@@ -1,8 +1,8 @@
 -- `poly::rows::sum_row` meets its contract. Assumes nothing.
 use mathlib.Core.Path.{sym, _∙_}
 use Rattle.draw.proofs.Rows.{row-same}
-use Rattle.gfx.specs.Paints.{paintAt, centreOf}
-use Rattle.gfx.specs.declared.paints.Paint.the-variants.{Solid}
+use Rattle.paints.specs.Paints.{paintAt, centreOf}
+use Rattle.paints.specs.declared.Paint.the-variants.{Solid}
 use Rattle.poly.specs.Rooms.{inkFrom}
 use Rattle.poly.proofs.Spans.{ink-level}
 use borrow.Author.Needs.{needs}

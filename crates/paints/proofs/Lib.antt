@@ -1,0 +1,2 @@
+-- The laws of coverage that belong to no one function.
+pub mod Covers

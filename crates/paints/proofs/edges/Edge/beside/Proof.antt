@@ -1,0 +1,30 @@
+-- `paints::edges::Edge::beside` meets its contract. Assumes nothing.
+use borrow.Author.Needs.{needs}
+use Rattle.paints.specs.Paints.{cornerSd}
+use Rattle.paints.proofs.edges.Edge.beside.Statement.{statement}
+use Rattle.paints.proofs.edges.Edge.beside.Tie as tie
+
+both-positive-requires : tie.Need-both-positive-requires
+both-positive-requires c κs = search needs
+
+cover-requires : tie.Need-cover-requires
+cover-requires c κs = search needs
+
+cov8-requires : tie.Need-cov8-requires
+cov8-requires c κs = search needs
+
+returns : tie.Need-returns
+unfolding cornerSd
+returns c = λ sure same. rw (← (c .before .before .both-positive .ensures), c .before .if1 .taken) (c .cover .ensures sure)
+
+returns-2 : tie.Need-returns-2
+unfolding cornerSd
+returns-2 c = λ sure same. let d = c .before .before .before in rw (← (d .before .both-positive .ensures), d .if1 .left, c .before .before .if2 .taken) (c .cov8 .ensures)
+
+returns-3 : tie.Need-returns-3
+unfolding cornerSd
+returns-3 c = λ sure same. rw (← (c .before .before .both-positive .ensures), c .before .if1 .left, c .if2 .left) same
+
+pub beside-spec : {M : Type 1} → statement M
+beside-spec =
+    tie.close (tie.spec both-positive-requires cover-requires cov8-requires returns returns-2 returns-3)

@@ -1,0 +1,3 @@
+-- The definitions that the contracts of `paints` cite: Paints from gfx.rs, Edges where a root can be spared.
+pub mod Paints
+pub mod Edges
