@@ -5,7 +5,7 @@ use crate::boxes::Four;
 use crate::canvas;
 use crate::canvas::irect;
 use crate::canvas::rect;
-use crate::paints;
+use crate::samples;
 use crate::shapes;
 use crate::word::float_of;
 use crate::word::pair;
@@ -93,7 +93,7 @@ pub fn agrees(area: u32, bytes: &[u8], at: u32) -> bool
         1 => color(bytes, at),
         2 => geom(bytes, at),
         3 => canvas::agrees(bytes, at),
-        4 => paints::agrees(bytes, at),
+        4 => samples::agrees(bytes, at),
         _ => shapes::agrees(bytes, at),
     }
 }

@@ -5,8 +5,8 @@ pub mod agree;
 pub mod answer;
 pub mod boxes;
 mod canvas;
-mod paints;
 pub mod report;
+mod samples;
 mod shapes;
 pub mod word;
 

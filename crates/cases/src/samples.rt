@@ -1,4 +1,4 @@
-// What the proved functions of gfx answer that take no canvas: coverage, distance and the colour of a paint.
+// What the proved functions of paints answer at a point: coverage, distance and the colour of a paint.
 use crate::answer::color_of;
 use crate::answer::color_word;
 use crate::word::float_of;
