@@ -3,6 +3,8 @@
 use crate::Color;
 use crate::Pixel;
 ghost use mathlib.Core.Path.{_≡_};
+ghost use mathlib.Core.Bool.{cond};
+ghost use lib.Dec.{leb, eqb};
 ghost use Prim.Native.Nat.{_<_, _≤_, _-_, _/_};
 ghost use Rattle.color.specs.Inks as Inks;
 ghost use Rattle.color.specs.Inks.{channel, coveredBy, overC, blendOf};
@@ -23,24 +25,35 @@ fn mixed(ink: u32, old: u32, a: u32, left: u32) -> u32
     part255(ink * a + old * left + 127)
 }
 
-// The inks of a colour over a pixel at alpha a. The remainder tells the compiler that what is left of 255 is a byte.
+// The old pixel at alpha 0, the plain ink from 255 on, the mix between them.
+fn chosen(dst: u32, ink: u32, mix: u32, a: u32) -> u32
+    ensures { λ p. ⌜ p ≡ cond (eqb a 0) dst (cond (leb 255 a) ink mix) ⌝ }
+{
+    if a == 0 {
+        dst
+    } else if a >= 255 {
+        ink
+    } else {
+        mix
+    }
+}
+
+// The inks of a colour over a pixel at alpha a. The mix is worked out first, of a byte, and then chosen or not: so the compiler can do
+// several pixels at once.
 pub fn over(dst: u32, c: Color, a: u32) -> u32
     ensures { λ p. ⌜ p ≡ Inks.over dst c a ⌝ }
 {
-    if a == 0 {
-        return dst;
-    }
     let r = c.r as u32;
     let g = c.g as u32;
     let b = c.b as u32;
-    if a >= 255 {
-        return r * 65536 + g * 256 + b;
-    }
-    let left = (255 - a) % 256;
-    let nr = mixed(r, dst / 65536 % 256, a, left);
-    let ng = mixed(g, dst / 256 % 256, a, left);
-    let nb = mixed(b, dst % 256, a, left);
-    nr * 65536 + ng * 256 + nb
+    let byte = a % 256;
+    let left = 255 - byte;
+    let nr = mixed(r, dst / 65536 % 256, byte, left);
+    let ng = mixed(g, dst / 256 % 256, byte, left);
+    let nb = mixed(b, dst % 256, byte, left);
+    let mix = nr * 65536 + ng * 256 + nb;
+    let ink = r * 65536 + g * 256 + b;
+    chosen(dst, ink, mix, a)
 }
 
 // An alpha scaled by a coverage; a coverage of 255 or more keeps it.
@@ -48,10 +61,8 @@ fn covered(a: u8, cov: u32) -> u32
     ensures { λ r. ⌜ r ≡ coveredBy a cov ⌝ }
 {
     let a = a as u32;
-    if cov >= 255 {
-        return a;
-    }
-    part255(a * cov + 127)
+    let part = part255(a * (cov % 256) + 127);
+    if cov >= 255 { a } else { part }
 }
 
 // A colour over a pixel, its alpha scaled by a coverage first.
