@@ -25,6 +25,44 @@ fn mixed(ink: u32, old: u32, a: u32, left: u32) -> u32
     part255(ink * a + old * left + 127)
 }
 
+// The inks of a colour over a pixel at alpha a. The remainder tells the compiler that what is left of 255 is a byte.
+pub fn over(dst: u32, c: Color, a: u32) -> u32
+    ensures { λ p. ⌜ p ≡ Inks.over dst c a ⌝ }
+{
+    if a == 0 {
+        return dst;
+    }
+    let r = c.r as u32;
+    let g = c.g as u32;
+    let b = c.b as u32;
+    if a >= 255 {
+        return r * 65536 + g * 256 + b;
+    }
+    let left = (255 - a) % 256;
+    let nr = mixed(r, dst / 65536 % 256, a, left);
+    let ng = mixed(g, dst / 256 % 256, a, left);
+    let nb = mixed(b, dst % 256, a, left);
+    nr * 65536 + ng * 256 + nb
+}
+
+// An alpha scaled by a coverage; a coverage of 255 or more keeps it.
+fn covered(a: u8, cov: u32) -> u32
+    ensures { λ r. ⌜ r ≡ coveredBy a cov ⌝ }
+{
+    let a = a as u32;
+    if cov >= 255 {
+        return a;
+    }
+    part255(a * cov + 127)
+}
+
+// A colour over a pixel, its alpha scaled by a coverage first.
+pub fn blend_c(dst: u32, c: Color, cov: u32) -> u32
+    ensures { λ p. ⌜ p ≡ overC dst c cov ⌝ }
+{
+    over(dst, c, covered(c.a, cov))
+}
+
 // The old pixel at alpha 0, the plain ink from 255 on, the mix between them.
 fn chosen(dst: u32, ink: u32, mix: u32, a: u32) -> u32
     ensures { λ p. ⌜ p ≡ cond (eqb a 0) dst (cond (leb 255 a) ink mix) ⌝ }
@@ -38,9 +76,9 @@ fn chosen(dst: u32, ink: u32, mix: u32, a: u32) -> u32
     }
 }
 
-// The inks of a colour over a pixel at alpha a. The mix is worked out first, of a byte, and then chosen or not: so the compiler can do
-// several pixels at once.
-pub fn over(dst: u32, c: Color, a: u32) -> u32
+// The same as `over`, for a loop whose alpha differs from pixel to pixel: the mix of a byte is worked out first, then chosen or not, so
+// that several pixels can be done at once.
+pub fn over_wide(dst: u32, c: Color, a: u32) -> u32
     ensures { λ p. ⌜ p ≡ Inks.over dst c a ⌝ }
 {
     let r = c.r as u32;
@@ -56,20 +94,19 @@ pub fn over(dst: u32, c: Color, a: u32) -> u32
     chosen(dst, ink, mix, a)
 }
 
-// An alpha scaled by a coverage; a coverage of 255 or more keeps it.
-fn covered(a: u8, cov: u32) -> u32
+// The same as `covered` and `blend_c`, for such a loop.
+fn covered_wide(a: u8, cov: u32) -> u32
     ensures { λ r. ⌜ r ≡ coveredBy a cov ⌝ }
 {
     let a = a as u32;
     let part = part255(a * (cov % 256) + 127);
-    if cov >= 255 { a } else { part }
+    if cov < 255 { part } else { a }
 }
 
-// A colour over a pixel, its alpha scaled by a coverage first.
-pub fn blend_c(dst: u32, c: Color, cov: u32) -> u32
+pub fn blend_c_wide(dst: u32, c: Color, cov: u32) -> u32
     ensures { λ p. ⌜ p ≡ overC dst c cov ⌝ }
 {
-    over(dst, c, covered(c.a, cov))
+    over_wide(dst, c, covered_wide(c.a, cov))
 }
 
 const REFUSED: Pixel = Pixel {

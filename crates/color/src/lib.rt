@@ -11,7 +11,9 @@ pub mod mixing;
 
 pub use crate::blending::blend;
 pub use crate::blending::blend_c;
+pub use crate::blending::blend_c_wide;
 pub use crate::blending::over;
+pub use crate::blending::over_wide;
 pub use crate::hues::hsv;
 pub use crate::mixing::mix_pix;
 

@@ -1,12 +1,13 @@
 -- `color::blending::over` meets its contract. Assumes nothing.
+use borrow.Author.Tests.{eq-eqb, ne-eqb, le-leb, lt-leb}
+use Rattle.color.specs.Inks.{blended}
 use native.Mathlib.Omega.{arith}
-use mathlib.Core.Path.{ap, _∙_}
-use mathlib.Core.Bool.{cond}
-use lib.Dec.{eqb}
-use Rattle.color.specs.Inks.{blended, packed, channel, red, green, blue}
-use Rattle.color.proofs.Overs.{byte-choice}
 use Rattle.color.proofs.blending.over.Statement.{statement}
 use Rattle.color.proofs.blending.over.Tie as tie
+
+returns : tie.Need-returns
+unfolding blended
+returns c = simp (eq-eqb _ _ (c .if1 .taken))
 
 cast-r : tie.Need-cast-r
 cast-r c = omega arith
@@ -16,6 +17,22 @@ cast-g c = omega arith
 
 cast-b : tie.Need-cast-b
 cast-b c = omega arith
+
+mul-result : tie.Need-mul-result
+mul-result c = omega arith
+
+mul-result-2 : tie.Need-mul-result-2
+mul-result-2 c = omega arith
+
+add-result : tie.Need-add-result
+add-result c = omega arith
+
+add-result-2 : tie.Need-add-result-2
+add-result-2 c = omega arith
+
+returns-2 : tie.Need-returns-2
+unfolding blended
+returns-2 c = simp (ne-eqb _ _ (c .before .before .before .before .if1 .left), le-leb _ _ (c .if2 .taken))
 
 sub-left : tie.Need-sub-left
 sub-left c = omega arith
@@ -29,63 +46,44 @@ mixed-requires-2 c κs = omega arith
 mixed-requires-3 : tie.Need-mixed-requires-3
 mixed-requires-3 c κs = omega arith
 
-mul-mix : tie.Need-mul-mix
-mul-mix c = omega arith
+mul-result-3 : tie.Need-mul-result-3
+mul-result-3 c = omega arith
 
-mul-mix-2 : tie.Need-mul-mix-2
-mul-mix-2 c = omega arith
+mul-result-4 : tie.Need-mul-result-4
+mul-result-4 c = omega arith
 
-add-mix : tie.Need-add-mix
-add-mix c = omega arith
+add-result-3 : tie.Need-add-result-3
+add-result-3 c = omega arith
 
-add-mix-2 : tie.Need-add-mix-2
-add-mix-2 c = omega arith
+add-result-4 : tie.Need-add-result-4
+add-result-4 c = omega arith
 
-mul-ink : tie.Need-mul-ink
-mul-ink c = omega arith
-
-mul-ink-2 : tie.Need-mul-ink-2
-mul-ink-2 c = omega arith
-
-add-ink : tie.Need-add-ink
-add-ink c = omega arith
-
-add-ink-2 : tie.Need-add-ink-2
-add-ink-2 c = omega arith
-
-chosen-requires : tie.Need-chosen-requires
-chosen-requires c κs = omega arith
-
-returns : tie.Need-returns
+returns-3 : tie.Need-returns-3
 unfolding blended
-returns c =
-    let args = c .before .before .before .before .before .before .before .args in
-    let ink = args .c in
-    let old = args .dst in
-    c .chosen .ensures
-    ∙ rw (c .before .before .before .mixed .ensures .0, c .before .before .mixed2 .ensures .0, c .before .mixed3 .ensures .0)
-    (ap
-    (cond (eqb (args .a) 0) old)
-    (byte-choice (args .a) (packed (ink .r) (ink .g) (ink .b)) (λ k. packed (channel (ink .r) (red old) k) (channel (ink .g) (green old) k) (channel (ink .b) (blue old) k))))
+returns-3 c =
+    let tests = c .before .before .before in
+    simp
+    (c .before .before .mixed .ensures .0, c .before .mixed2 .ensures .0, c .mixed3 .ensures .0, ne-eqb _ _ (tests .before .before .before .before .if1 .left), lt-leb _ _ (tests .if2 .left))
 
 pub over-spec : {M : Type 1} → statement M
 over-spec =
     tie.close
     (tie.spec
+    returns
     cast-r
     cast-g
     cast-b
+    mul-result
+    mul-result-2
+    add-result
+    add-result-2
+    returns-2
     sub-left
     mixed-requires
     mixed-requires-2
     mixed-requires-3
-    mul-mix
-    mul-mix-2
-    add-mix
-    add-mix-2
-    mul-ink
-    mul-ink-2
-    add-ink
-    add-ink-2
-    chosen-requires
-    returns)
+    mul-result-3
+    mul-result-4
+    add-result-3
+    add-result-4
+    returns-3)
