@@ -2,13 +2,14 @@
 use mathlib.Core.Bool.{Bool, true, cond}
 use mathlib.Core.Path.{_≡_}
 use mathlib.Core.List.{List}
-use Prim.Native.Nat.{ℕ}
+use Prim.Native.Nat.{ℕ, _+_, _-_, _<_, _≤_}
 use lib.ListN.{getD}
 use lib.Dec.{T}
 use lib.Ieee.{Float, binary32, fits}
 use Rattle.mathf.specs.F32.{_-ᶠ_, _*ᶠ_, _/ᶠ_, _≤ᶠ_, f0, f2, f96}
 use Rattle.mathf.specs.Root.{sqrtOf}
 use Rattle.mathf.specs.Convert.{toUsize}
+use Rattle.mathf.specs.Order.{fabsOf}
 use Rattle.color.specs.declared.Color.{Color}
 use Rattle.color.specs.Inks.{over}
 use Rattle.paints.specs.declared.Rounded.{Rounded}
@@ -29,6 +30,21 @@ straightInk s blur c sdy x y p = over p c (straightSide s (c .a) blur sdy (centr
 
 unfoldable pub cornerInk : Rounded → Float → Color → Float → ℕ → ℕ → ℕ → ℕ
 cornerInk s blur c qy x y p = over p c (cornerSide s (c .a) blur qy (centreOf x))
+
+-- the alpha of a column by its own distance, and, in a row that is not straight, that of the column k past x0
+unfoldable pub columnAlpha : Shade → ℕ → ℕ
+columnAlpha h x = alphaOf (h .c .a) (h .blur) (fabsOf (centreOf x -ᶠ h .s .cx) -ᶠ h .s .hw)
+
+unfoldable pub sideAlpha : Shade → Float → ℕ → ℕ → ℕ
+sideAlpha h qy x0 k = cornerSide (h .s) (h .c .a) (h .blur) qy (centreOf (x0 + k))
+
+-- the places x0 up to x1 of a row hold what f gives of their columns
+unfoldable pub Holds : (ℕ → ℕ) → ℕ → ℕ → List ℕ → Type 0
+Holds f x0 x1 row = (x : ℕ) → x0 ≤ x → x < x1 → getD row x 0 ≡ f x
+
+-- each column at its alpha, of which x0 has the first
+unfoldable pub eachInk : Color → ℕ → List ℕ → ℕ → ℕ → ℕ → ℕ
+eachInk c x0 alphas x y p = over p c (getD alphas (x - x0) 0)
 
 -- from the squared distance k of the centre of a corner on, there is no shadow
 unfoldable pub Faded : Float → Float → Float → Type 0

@@ -1,6 +1,7 @@
 // The soft shadow of a rounded rectangle.
 use color::Color;
 use color::over;
+use color::over_wide;
 use draw::Area;
 use draw::between;
 use draw::clipped;
@@ -13,7 +14,7 @@ use gfx::Done;
 use paints::Rounded;
 use paints::centre;
 ghost use mathlib.Core.Path.{_≡_};
-ghost use Prim.Native.Nat.{_+_, _≤_};
+ghost use Prim.Native.Nat.{_+_, _<_, _≤_};
 ghost use lib.ListN.{length};
 ghost use Rattle.mathf.specs.F32.{_-ᶠ_, _/ᶠ_, _*ᶠ_, f2, f96};
 ghost use Rattle.mathf.specs.Root.{sqrtOf};
@@ -21,8 +22,9 @@ ghost use Rattle.geom.specs.Int.{up};
 ghost use Rattle.draw.specs.Draw.{drawn};
 ghost use Rattle.draw.specs.Areas.{drawnIn, area, RowFits, AreaFits};
 ghost use Rattle.gfx.specs.Calls.{Called, shapeNumber};
+ghost use Rattle.paints.specs.Paints.{centreOf};
 ghost use Rattle.shadow.specs.Shadow.{shadowOk, shadowReach, levelOf, table, stepsOut, alphaOf, rowDy, rowQy, straightFrom, straightUpto, straightMiddle, straightSide, cornerFrom, cornerUpto, cornerSide, shadeInk, shadowInk};
-ghost use Rattle.shadow.specs.Spans.{Faded, Table, tableAlpha, flatInk, straightInk, cornerInk, straightRowInk, cornerRowInk};
+ghost use Rattle.shadow.specs.Spans.{Faded, Table, Holds, columnAlpha, sideAlpha, eachInk, tableAlpha, flatInk, straightInk, cornerInk, straightRowInk, cornerRowInk};
 
 // The reach: nothing where the colour has no alpha or the blur is not above 0.
 pub fn shadow_reach(rect: Rect, blur: f32, c: Color) -> IRect
@@ -116,17 +118,36 @@ fn corner_alpha(lut: &[u32; 97], h: Shade, d: f32) -> u32
     alpha_of(lut, h.c.a, h.blur, h.scale, mathf::sqrt(d) - h.s.r)
 }
 
-// The alpha beside the middle of a straight row.
-fn straight_side(lut: &[u32; 97], h: Shade, sdy: f32, xc: f32) -> u32
+// The alpha of column x by its own distance.
+fn column_alpha(lut: &[u32; 97], h: Shade, x: usize) -> u32
     requires { ⌜ Table h (now lut) ⌝ }
-    ensures { λ r. ⌜ r ≡ straightSide (h .s) (h .c .a) (h .blur) sdy xc ⌝ }
+    requires { ⌜ x < 2048 ⌝ }
+    ensures { λ r. ⌜ r ≡ columnAlpha h x ⌝ }
 {
-    let sdx = mathf::fabs(xc - h.s.cx) - h.s.hw;
-    if sdx > sdy {
-        alpha_of(lut, h.c.a, h.blur, h.scale, sdx)
-    } else {
-        alpha_of(lut, h.c.a, h.blur, h.scale, sdy)
+    let sdx = mathf::fabs(centre(x as u16) - h.s.cx) - h.s.hw;
+    alpha_of(lut, h.c.a, h.blur, h.scale, sdx)
+}
+
+// That of the columns x0 up to x1, which all straight rows share: filled once a call.
+fn columns(lut: &[u32; 97], h: Shade, x0: usize, x1: usize) -> [u32; 2048]
+    requires { ⌜ Table h (now lut) ⌝ }
+    requires { ⌜ (x0 ≤ x1) × (x1 ≤ 2048) ⌝ }
+    ensures { λ r. ⌜ Holds (columnAlpha h) x0 x1 r ⌝ }
+{
+    let mut cols = [0u32; 2048];
+    for x in x0..x1 {
+        cols[x] = column_alpha(lut, h, x);
     }
+    cols
+}
+
+// The alpha beside the middle of a straight row, from that of its column and that of the row.
+fn straight_side(h: Shade, sdy: f32, x: usize, col: u32, row: u32) -> u32
+    requires { ⌜ x < 2048 ⌝ }
+    ensures { λ r. ⌜ (col ≡ columnAlpha h x → row ≡ alphaOf (h .c .a) (h .blur) sdy → r ≡ straightSide (h .s) (h .c .a) (h .blur) sdy (centreOf x)) ⌝ }
+{
+    let sdx = mathf::fabs(centre(x as u16) - h.s.cx) - h.s.hw;
+    if sdx > sdy { col } else { row }
 }
 
 // The alpha beside the middle of any other row.
@@ -164,8 +185,67 @@ fn flat_span(px: &mut [u32], w: usize, y: usize, x0: usize, x1: usize, c: Color,
     }
 }
 
-// A part of row y beside the middle of a straight row.
+// A part of row y beside the middle of a straight row; `v` is the alpha by the row's own distance.
 fn straight_span(
+    px: &mut [u32],
+    cols: &[u32; 2048],
+    w: usize,
+    y: usize,
+    x0: usize,
+    x1: usize,
+    h: Shade,
+    sdy: f32,
+    v: u32,
+)
+    requires { ⌜ RowFits w y x0 x1 (length (now px)) ⌝ }
+    requires { ⌜ Holds (columnAlpha h) x0 x1 (now cols) ⌝ }
+    requires { ⌜ v ≡ alphaOf (h .c .a) (h .blur) sdy ⌝ }
+    ensures { λ _. ⌜ now (px .exit) ≡ drawnIn w (area x0 y x1 (y + 1)) (straightInk (h .s) (h .blur) (h .c) sdy) (now (px .entry)) ⌝ }
+{
+    let row = y * w;
+    for x in x0..x1 {
+        let a = straight_side(h, sdy, x, cols[x], v);
+        let i = row + x;
+        px[i] = over_wide(px[i], h.c, a);
+    }
+}
+
+// The alphas of n columns from x0 on of any other row, beside its middle.
+fn corner_alphas(lut: &[u32; 97], x0: usize, n: usize, h: Shade, qy: f32) -> [u32; 128]
+    requires { ⌜ (x0 + n ≤ 2048) × (n ≤ 128) ⌝ }
+    requires { ⌜ Table h (now lut) ⌝ }
+    ensures { λ r. ⌜ Holds (sideAlpha h qy x0) 0 n r ⌝ }
+{
+    let mut alphas = [0u32; 128];
+    for k in 0..n {
+        alphas[k] = corner_side(lut, h, qy, centre((x0 + k) as u16));
+    }
+    alphas
+}
+
+// A part of row y, each column at its alpha.
+fn each_span(
+    px: &mut [u32],
+    alphas: &[u32; 128],
+    w: usize,
+    y: usize,
+    x0: usize,
+    x1: usize,
+    c: Color,
+)
+    requires { ⌜ RowFits w y x0 x1 (length (now px)) ⌝ }
+    requires { ⌜ x1 ≤ x0 + 128 ⌝ }
+    ensures { λ _. ⌜ now (px .exit) ≡ drawnIn w (area x0 y x1 (y + 1)) (eachInk c x0 (now (alphas .entry))) (now (px .entry)) ⌝ }
+{
+    let row = y * w;
+    for x in x0..x1 {
+        let i = row + x;
+        px[i] = over_wide(px[i], c, alphas[x - x0]);
+    }
+}
+
+// At most 128 columns of row y beside the middle of any other row: their alphas first, then all pixels.
+fn corner_part(
     px: &mut [u32],
     lut: &[u32; 97],
     w: usize,
@@ -173,21 +253,15 @@ fn straight_span(
     x0: usize,
     x1: usize,
     h: Shade,
-    sdy: f32,
+    qy: f32,
 )
     requires { ⌜ RowFits w y x0 x1 (length (now px)) ⌝ }
     requires { ⌜ Table h (now lut) ⌝ }
-    ensures { λ _. ⌜ now (px .exit) ≡ drawnIn w (area x0 y x1 (y + 1)) (straightInk (h .s) (h .blur) (h .c) sdy) (now (px .entry)) ⌝ }
+    requires { ⌜ x1 ≤ x0 + 128 ⌝ }
+    ensures { λ _. ⌜ now (px .exit) ≡ drawnIn w (area x0 y x1 (y + 1)) (cornerInk (h .s) (h .blur) (h .c) qy) (now (px .entry)) ⌝ }
 {
-    let row = y * w;
-    for x in x0..x1 {
-        let v = straight_side(lut, h, sdy, centre(x as u16));
-        if v == 0 {
-            continue;
-        }
-        let i = row + x;
-        px[i] = over(px[i], h.c, v);
-    }
+    let alphas = corner_alphas(lut, x0, x1 - x0, h, qy);
+    each_span(px, &alphas, w, y, x0, x1, h.c);
 }
 
 // A part of row y beside the middle of any other row.
@@ -205,14 +279,11 @@ fn corner_span(
     requires { ⌜ Table h (now lut) ⌝ }
     ensures { λ _. ⌜ now (px .exit) ≡ drawnIn w (area x0 y x1 (y + 1)) (cornerInk (h .s) (h .blur) (h .c) qy) (now (px .entry)) ⌝ }
 {
-    let row = y * w;
-    for x in x0..x1 {
-        let v = corner_side(lut, h, qy, centre(x as u16));
-        if v == 0 {
-            continue;
-        }
-        let i = row + x;
-        px[i] = over(px[i], h.c, v);
+    let mut x = x0;
+    while x < x1 {
+        let next = between(x + 128, x, x1);
+        corner_part(px, lut, w, y, x, next, h, qy);
+        x = next;
     }
 }
 
@@ -245,6 +316,7 @@ fn corner_upto(s: Rounded) -> usize
 fn straight_row(
     px: &mut [u32],
     lut: &[u32; 97],
+    cols: &[u32; 2048],
     w: usize,
     y: usize,
     x0: usize,
@@ -255,14 +327,16 @@ fn straight_row(
 )
     requires { ⌜ RowFits w y x0 x1 (length (now px)) ⌝ }
     requires { ⌜ Table h (now lut) ⌝ }
+    requires { ⌜ Holds (columnAlpha h) x0 x1 (now cols) ⌝ }
     ensures { λ _. ⌜ now (px .exit) ≡ drawnIn w (area x0 y x1 (y + 1)) (straightRowInk h skip sdy) (now (px .entry)) ⌝ }
 {
     let a = between(straight_from(h.s, h.blur), x0, x1);
     let b = between(straight_upto(h.s, h.blur), a, x1);
-    let v = straight_middle(lut, h, skip, sdy);
-    straight_span(px, lut, w, y, x0, a, h, sdy);
-    flat_span(px, w, y, a, b, h.c, v);
-    straight_span(px, lut, w, y, b, x1, h, sdy);
+    let m = straight_middle(lut, h, skip, sdy);
+    let v = alpha_of(lut, h.c.a, h.blur, h.scale, sdy);
+    straight_span(px, cols, w, y, x0, a, h, sdy, v);
+    flat_span(px, w, y, a, b, h.c, m);
+    straight_span(px, cols, w, y, b, x1, h, sdy, v);
 }
 
 // Row y where it is not.
@@ -292,6 +366,7 @@ fn corner_row(
 fn shade_row(
     px: &mut [u32],
     lut: &[u32; 97],
+    cols: &[u32; 2048],
     w: usize,
     y: usize,
     x0: usize,
@@ -301,21 +376,31 @@ fn shade_row(
 )
     requires { ⌜ RowFits w y x0 x1 (length (now px)) ⌝ }
     requires { ⌜ Table h (now lut) ⌝ }
+    requires { ⌜ Holds (columnAlpha h) x0 x1 (now cols) ⌝ }
     ensures { λ _. ⌜ now (px .exit) ≡ drawnIn w (area x0 y x1 (y + 1)) (shadeInk (h .s) (h .blur) (h .c) skip) (now (px .entry)) ⌝ }
 {
     let dy = mathf::fabs(centre(y as u16) - h.s.cy);
     let qy = dy - (h.s.hh - h.s.r);
     if qy <= 0.0 {
-        straight_row(px, lut, w, y, x0, x1, h, skip, dy - h.s.hh);
+        straight_row(px, lut, cols, w, y, x0, x1, h, skip, dy - h.s.hh);
     } else {
         corner_row(px, lut, w, y, x0, x1, h, qy);
     }
 }
 
 // The rows of an area.
-fn shade_box(px: &mut [u32], lut: &[u32; 97], w: usize, b: Area, h: Shade, skip: bool)
+fn shade_box(
+    px: &mut [u32],
+    lut: &[u32; 97],
+    cols: &[u32; 2048],
+    w: usize,
+    b: Area,
+    h: Shade,
+    skip: bool,
+)
     requires { ⌜ AreaFits w b (length (now px)) ⌝ }
     requires { ⌜ Table h (now lut) ⌝ }
+    requires { ⌜ Holds (columnAlpha h) (b .x0) (b .x1) (now cols) ⌝ }
     ensures { λ _. ⌜ now (px .exit) ≡ drawnIn w b (shadeInk (h .s) (h .blur) (h .c) skip) (now (px .entry)) ⌝ }
 {
     let x0 = b.x0;
@@ -323,7 +408,7 @@ fn shade_box(px: &mut [u32], lut: &[u32; 97], w: usize, b: Area, h: Shade, skip:
     let y0 = b.y0;
     let y1 = b.y1;
     for y in y0..y1 {
-        shade_row(px, lut, w, y, x0, x1, h, skip);
+        shade_row(px, lut, cols, w, y, x0, x1, h, skip);
     }
 }
 
@@ -352,7 +437,8 @@ fn shade_area(
         far,
         c,
     };
-    shade_box(px, &lut, w, b, h, skip);
+    let cols = columns(&lut, h, b.x0, b.x1);
+    shade_box(px, &lut, &cols, w, b, h, skip);
 }
 
 // The soft shadow of a rounded rectangle; `blur` is half the width of its falloff.

@@ -1,82 +1,41 @@
 -- `shadow::corner_span` meets its contract. The columns before x are drawn. Assumes nothing.
-use mathlib.Core.Path.{_∙_}
+use mathlib.Core.Path.{refl}
 use Prim.Native.Nat.{_-_}
 use native.Mathlib.Omega.{arith}
-use Rattle.color.proofs.Overs.{over-idle}
-use Rattle.draw.proofs.Loops.{InRow, row-start, row-next, row-pass, row-end}
+use Rattle.draw.proofs.Loops.{InRow, row-start, row-span, row-end}
 use Rattle.shadow.specs.Spans.{cornerInk}
 use Rattle.shadow.proofs.corner_span.Statement.{statement}
 use Rattle.shadow.proofs.corner_span.Tie as tie
 
 abbrev Inv-loop : tie.InvT-loop
-Inv-loop px₀ lut w y x0 x1 h qy row x₀ px x = InRow w (cornerInk (h .s) (h .blur) (h .c) qy) y x0 x1 px₀ px x
+Inv-loop px₀ lut w y x0 x1 h qy x₀ px x = InRow w (cornerInk (h .s) (h .blur) (h .c) qy) y x0 x1 px₀ px x
 
 abbrev μ-loop : tie.MeasureT-loop
-μ-loop px₀ lut w y x0 x1 h qy row x₀ px x = x1 - x
-
-mul-row : tie.Need-mul-row Inv-loop μ-loop
-mul-row c = omega arith
+μ-loop px₀ lut w y x0 x1 h qy x₀ px x = x1 - x
 
 loop-holds : tie.Need-loop-holds Inv-loop μ-loop
 loop-holds c =
     let a = c .before .args in
     row-start _ (cornerInk (a .h .s) (a .h .blur) (a .h .c) (a .qy)) _ _ _ _ (c .before .pre .0 .order)
 
-cast-centre : tie.Need-cast-centre Inv-loop μ-loop
-cast-centre c = omega arith
+add-between : tie.Need-add-between Inv-loop μ-loop
+add-between c = omega arith
 
-centre-requires : tie.Need-centre-requires Inv-loop μ-loop
-centre-requires c κs = omega arith
+between-requires : tie.Need-between-requires Inv-loop μ-loop
+between-requires c κs = omega arith
 
-corner-side-requires : tie.Need-corner-side-requires Inv-loop μ-loop
-corner-side-requires c κs = c .before .before .before .before .pre .1
-
-add-x : tie.Need-add-x Inv-loop μ-loop
-add-x c = omega arith
+corner-part-requires : tie.Need-corner-part-requires Inv-loop μ-loop
+corner-part-requires c κs =
+    (omega arith, (c .before .before .before .before .before .pre .1, omega arith))
 
 loop-less : tie.Need-loop-less Inv-loop μ-loop
 loop-less c = omega arith
 
 loop-again : tie.Need-loop-again Inv-loop μ-loop
-unfolding cornerInk
 loop-again c =
-    let turn = c .before .before .before in
-    let loop = turn .before in
-    row-pass (loop .before .before .pre .0) (loop .loop .inv) (turn .loop-test .taken)
-    (over-idle _ (loop .before .before .args .h .c) _ (rw (← (c .before .before .centre .ensures), ← (c .before .corner-side .ensures)) (c .if1 .taken)))
-
-add-i : tie.Need-add-i Inv-loop μ-loop
-add-i c = omega arith
-
-mul-over : tie.Need-mul-over Inv-loop μ-loop
-mul-over c = omega arith
-
-slice-read-over : tie.Need-slice-read-over Inv-loop μ-loop
-slice-read-over c = omega arith
-
-over-requires : tie.Need-over-requires Inv-loop μ-loop
-over-requires c κs = omega arith
-
-mul-px : tie.Need-mul-px Inv-loop μ-loop
-mul-px c = omega arith
-
-slice-write-px : tie.Need-slice-write-px Inv-loop μ-loop
-slice-write-px c = omega arith
-
-add-x-2 : tie.Need-add-x-2 Inv-loop μ-loop
-add-x-2 c = omega arith
-
-loop-less-2 : tie.Need-loop-less-2 Inv-loop μ-loop
-loop-less-2 c = omega arith
-
-loop-again-2 : tie.Need-loop-again-2 Inv-loop μ-loop
-unfolding cornerInk
-loop-again-2 c =
-    let v = c .before .before .before in
-    let turn = v .before .before in
-    let loop = turn .before in
-    row-next (loop .before .before .pre .0) (loop .loop .inv) (turn .loop-test .taken)
-    (c .over .ensures ∙ rw (v .corner-side .ensures, v .before .centre .ensures))
+    let loop = c .before .before .before .before .before .before in
+    let a = loop .before .before .args in
+    row-span (cornerInk (a .h .s) (a .h .blur) (a .h .c) (a .qy)) _ _ (loop .loop .inv) (omega arith) (omega arith) (c .before .before .corner-part .ensures) (λ j p l h. refl)
 
 same-length : tie.Need-same-length Inv-loop μ-loop
 same-length c = omega arith
@@ -90,22 +49,11 @@ corner-span-spec =
     (tie.spec
     Inv-loop
     μ-loop
-    mul-row
     loop-holds
-    cast-centre
-    centre-requires
-    corner-side-requires
-    add-x
+    add-between
+    between-requires
+    corner-part-requires
     loop-less
     loop-again
-    add-i
-    mul-over
-    slice-read-over
-    over-requires
-    mul-px
-    slice-write-px
-    add-x-2
-    loop-less-2
-    loop-again-2
     same-length
     returns)

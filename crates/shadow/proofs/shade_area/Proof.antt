@@ -1,5 +1,6 @@
 -- `shadow::shade_area` meets its contract. Assumes nothing.
 use mathlib.Core.Path.{refl}
+use native.Mathlib.Omega.{arith}
 use borrow.Author.Needs.{needs}
 use Rattle.shadow.proofs.shade_area.Statement.{statement}
 use Rattle.shadow.proofs.shade_area.Tie as tie
@@ -13,17 +14,23 @@ of-requires c κs = search needs
 far-of-requires : tie.Need-far-of-requires
 far-of-requires c κs = refl
 
+columns-requires : tie.Need-columns-requires
+columns-requires c κs =
+    let fits = c .before .before .before .before .before .pre in
+    (record { levels = c .before .before .before .falloff .ensures; scaled = refl; faded = c .before .far-of .ensures }, (fits .across, fits .wide))
+
 shade-box-requires : tie.Need-shade-box-requires
 shade-box-requires c κs =
-    let o = c .before .before .before .before in
-    (o .before .before .pre, record { levels = o .falloff .ensures; scaled = refl; faded = c .before .before .far-of .ensures })
+    let o = c .before .before .before .before .before .before .before in
+    (c .before .before .before .before .before .before .before .before .before .pre, (record { levels = o .falloff .ensures; scaled = refl; faded = c .before .before .before .before .before .far-of .ensures }, c .before .before .before .columns .ensures))
 
 same-length : tie.Need-same-length
-same-length c = search needs
+same-length c = omega arith
 
 returns : tie.Need-returns
-returns c = rw (← (c .before .before .before .before .before .before .of .ensures)) (c .before .before .shade-box .ensures)
+returns c =
+    rw (← (c .before .before .before .before .before .before .before .before .before .of .ensures)) (c .before .before .shade-box .ensures)
 
 pub shade-area-spec : {M : Type 1} → statement M
 shade-area-spec =
-    tie.close (tie.spec falloff-requires of-requires far-of-requires shade-box-requires same-length returns)
+    tie.close (tie.spec falloff-requires of-requires far-of-requires columns-requires shade-box-requires same-length returns)

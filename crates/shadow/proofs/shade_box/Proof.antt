@@ -7,10 +7,10 @@ use Rattle.shadow.proofs.shade_box.Statement.{statement}
 use Rattle.shadow.proofs.shade_box.Tie as tie
 
 abbrev Inv-loop : tie.InvT-loop
-Inv-loop px₀ lut w h skip x0 x1 y0 y1 y₀ px y = InRows w (shadeInk (h .s) (h .blur) (h .c) skip) x0 x1 y0 y1 px₀ px y
+Inv-loop px₀ lut cols w h skip x0 x1 y0 y1 y₀ px y = InRows w (shadeInk (h .s) (h .blur) (h .c) skip) x0 x1 y0 y1 px₀ px y
 
 abbrev μ-loop : tie.MeasureT-loop
-μ-loop px₀ lut w h skip x0 x1 y0 y1 y₀ px y = y1 - y
+μ-loop px₀ lut cols w h skip x0 x1 y0 y1 y₀ px y = y1 - y
 
 loop-holds : tie.Need-loop-holds Inv-loop μ-loop
 loop-holds c =
@@ -20,7 +20,8 @@ loop-holds c =
 shade-row-requires : tie.Need-shade-row-requires Inv-loop μ-loop
 shade-row-requires c κs =
     let l = c .before .before in
-    (row-fits (l .before .before .pre .0) (l .loop .inv) (c .before .loop-test .taken), l .before .before .pre .1)
+    let p = l .before .before .pre in
+    (row-fits (p .0) (l .loop .inv) (c .before .loop-test .taken), p .1)
 
 add-y : tie.Need-add-y Inv-loop μ-loop
 add-y c = omega arith
@@ -30,8 +31,7 @@ loop-less c = omega arith
 
 loop-again : tie.Need-loop-again Inv-loop μ-loop
 loop-again c =
-    let l = c .before .before .before .before .before in
-    rows-next (l .loop .inv) (c .before .before .before .before .loop-test .taken) (c .before .before .shade-row .ensures)
+    rows-next (c .before .before .before .before .before .loop .inv) (c .before .before .before .before .loop-test .taken) (c .before .before .shade-row .ensures)
 
 same-length : tie.Need-same-length Inv-loop μ-loop
 same-length c = omega arith

@@ -20,7 +20,9 @@ straight-row-requires : tie.Need-straight-row-requires
 straight-row-requires c κs = c .before .before .before .before .before .before .before .before .pre
 
 corner-row-requires : tie.Need-corner-row-requires
-corner-row-requires c κs = c .before .before .before .before .before .before .before .pre
+corner-row-requires c κs =
+    let p = c .before .before .before .before .before .before .before .pre in
+    (p .0, p .1 .0)
 
 same-length : tie.Need-same-length
 same-length c = omega arith

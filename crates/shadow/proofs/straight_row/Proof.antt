@@ -1,8 +1,9 @@
 -- `shadow::straight_row` meets its contract. Assumes nothing.
 use native.Mathlib.Omega.{arith}
 use Rattle.shadow.specs.Shadow.{straightFrom, straightUpto}
-use Rattle.shadow.specs.Spans.{flatInk, straightInk, straightRowInk}
+use Rattle.shadow.specs.Spans.{columnAlpha, flatInk, straightInk, straightRowInk}
 use Rattle.shadow.proofs.Parts.{parts, straight-out, straight-in}
+use Rattle.shadow.proofs.Held.{held-part}
 use borrow.Author.Needs.{needs}
 use Rattle.shadow.proofs.straight_row.Statement.{statement}
 use Rattle.shadow.proofs.straight_row.Tie as tie
@@ -20,16 +21,27 @@ between-requires-2 : tie.Need-between-requires-2
 between-requires-2 c κs = search needs
 
 straight-middle-requires : tie.Need-straight-middle-requires
-straight-middle-requires c κs = c .before .before .before .before .before .pre .1
+straight-middle-requires c κs = c .before .before .before .before .before .pre .1 .0
+
+alpha-of-requires : tie.Need-alpha-of-requires
+alpha-of-requires c κs =
+    let t = c .before .before .before .before .before .before .pre .1 .0 in
+    (t .levels, t .scaled)
 
 straight-span-requires : tie.Need-straight-span-requires
-straight-span-requires c κs = (omega arith, c .before .before .before .before .before .before .before .pre .1)
+straight-span-requires c κs =
+    let st = c .before .before .before .before .before .before .before .before in
+    let a = st .args in
+    (omega arith, (held-part (columnAlpha (a .h)) (a .x0) (a .x1) _ (st .pre .1 .1) (omega arith) (omega arith), c .before .alpha-of .ensures))
 
 flat-span-requires : tie.Need-flat-span-requires
 flat-span-requires c κs = omega arith
 
 straight-span-requires-2 : tie.Need-straight-span-requires-2
-straight-span-requires-2 c κs = (omega arith, c .before .before .before .before .before .before .before .before .before .before .before .before .before .before .before .pre .1)
+straight-span-requires-2 c κs =
+    let st = c .before .before .before .before .before .before .before .before .before .before .before .before .before .before .before .before in
+    let a = st .args in
+    (omega (arith, c .before .before .before .before .before .before .before .before .before .before .before .between2 .ensures, c .before .before .before .before .before .before .before .before .before .before .before .before .before .between .ensures, st .pre .0), (held-part (columnAlpha (a .h)) (a .x0) (a .x1) _ (st .pre .1 .1) (omega (arith, c .before .before .before .before .before .before .before .before .before .before .before .between2 .ensures, c .before .before .before .before .before .before .before .before .before .before .before .before .before .between .ensures, st .pre .0)) (omega (arith, st .pre .0)), c .before .before .before .before .before .before .before .before .before .alpha-of .ensures))
 
 same-length : tie.Need-same-length
 same-length c = omega arith
@@ -38,7 +50,7 @@ returns : tie.Need-returns
 returns c =
     let flat = c .before .before .before .before .before .before in
     let left = flat .before .before .before .before in
-    let mid = left .before .before in
+    let mid = left .before .before .before in
     let st = mid .before .before .before .before .before .before in
     let a = st .args in
     parts (straightRowInk (a .h) (a .skip) (a .sdy)) (straightInk (a .h .s) (a .h .blur) (a .h .c) (a .sdy)) (flatInk (a .h .c) (mid .straight-middle .result))
@@ -59,6 +71,7 @@ straight-row-spec =
     straight-upto-requires
     between-requires-2
     straight-middle-requires
+    alpha-of-requires
     straight-span-requires
     flat-span-requires
     straight-span-requires-2

@@ -1,18 +1,17 @@
 -- `shadow::straight_span` meets its contract. The columns before x are drawn. Assumes nothing.
-use mathlib.Core.Path.{_∙_}
-use Prim.Native.Nat.{_-_}
 use native.Mathlib.Omega.{arith}
-use Rattle.color.proofs.Overs.{over-idle}
-use Rattle.draw.proofs.Loops.{InRow, row-start, row-next, row-pass, row-end}
-use Rattle.shadow.specs.Spans.{straightInk}
+use Prim.Native.Nat.{_-_}
+use mathlib.Core.Path.{_∙_}
+use Rattle.draw.proofs.Loops.{InRow, row-start, row-next, row-end}
+use Rattle.shadow.specs.Spans.{Holds, straightInk}
 use Rattle.shadow.proofs.straight_span.Statement.{statement}
 use Rattle.shadow.proofs.straight_span.Tie as tie
 
 abbrev Inv-loop : tie.InvT-loop
-Inv-loop px₀ lut w y x0 x1 h sdy row x₀ px x = InRow w (straightInk (h .s) (h .blur) (h .c) sdy) y x0 x1 px₀ px x
+Inv-loop px₀ cols w y x0 x1 h sdy v row x₀ px x = InRow w (straightInk (h .s) (h .blur) (h .c) sdy) y x0 x1 px₀ px x
 
 abbrev μ-loop : tie.MeasureT-loop
-μ-loop px₀ lut w y x0 x1 h sdy row x₀ px x = x1 - x
+μ-loop px₀ cols w y x0 x1 h sdy v row x₀ px x = x1 - x
 
 mul-row : tie.Need-mul-row Inv-loop μ-loop
 mul-row c = omega arith
@@ -22,14 +21,32 @@ loop-holds c =
     let a = c .before .args in
     row-start _ (straightInk (a .h .s) (a .h .blur) (a .h .c) (a .sdy)) _ _ _ _ (c .before .pre .0 .order)
 
-cast-centre : tie.Need-cast-centre Inv-loop μ-loop
-cast-centre c = omega arith
+mul-straight-side : tie.Need-mul-straight-side Inv-loop μ-loop
+mul-straight-side c = omega arith
 
-centre-requires : tie.Need-centre-requires Inv-loop μ-loop
-centre-requires c κs = omega arith
+element-copy-out-straight-side : tie.Need-element-copy-out-straight-side Inv-loop μ-loop
+element-copy-out-straight-side c = omega arith
 
 straight-side-requires : tie.Need-straight-side-requires Inv-loop μ-loop
-straight-side-requires c κs = c .before .before .before .before .pre .1
+straight-side-requires c κs = omega arith
+
+add-i : tie.Need-add-i Inv-loop μ-loop
+add-i c = omega arith
+
+mul-over-wide : tie.Need-mul-over-wide Inv-loop μ-loop
+mul-over-wide c = omega arith
+
+slice-read-over-wide : tie.Need-slice-read-over-wide Inv-loop μ-loop
+slice-read-over-wide c = omega arith
+
+over-wide-requires : tie.Need-over-wide-requires Inv-loop μ-loop
+over-wide-requires c κs = omega arith
+
+mul-px : tie.Need-mul-px Inv-loop μ-loop
+mul-px c = omega arith
+
+slice-write-px : tie.Need-slice-write-px Inv-loop μ-loop
+slice-write-px c = omega arith
 
 add-x : tie.Need-add-x Inv-loop μ-loop
 add-x c = omega arith
@@ -38,45 +55,14 @@ loop-less : tie.Need-loop-less Inv-loop μ-loop
 loop-less c = omega arith
 
 loop-again : tie.Need-loop-again Inv-loop μ-loop
-unfolding straightInk
+unfolding straightInk Holds
 loop-again c =
-    let turn = c .before .before .before in
+    let side = c .before .before in
+    let turn = side .before .before in
     let loop = turn .before in
-    row-pass (loop .before .before .pre .0) (loop .loop .inv) (turn .loop-test .taken)
-    (over-idle _ (loop .before .before .args .h .c) _ (rw (← (c .before .before .centre .ensures), ← (c .before .straight-side .ensures)) (c .if1 .taken)))
-
-add-i : tie.Need-add-i Inv-loop μ-loop
-add-i c = omega arith
-
-mul-over : tie.Need-mul-over Inv-loop μ-loop
-mul-over c = omega arith
-
-slice-read-over : tie.Need-slice-read-over Inv-loop μ-loop
-slice-read-over c = omega arith
-
-over-requires : tie.Need-over-requires Inv-loop μ-loop
-over-requires c κs = omega arith
-
-mul-px : tie.Need-mul-px Inv-loop μ-loop
-mul-px c = omega arith
-
-slice-write-px : tie.Need-slice-write-px Inv-loop μ-loop
-slice-write-px c = omega arith
-
-add-x-2 : tie.Need-add-x-2 Inv-loop μ-loop
-add-x-2 c = omega arith
-
-loop-less-2 : tie.Need-loop-less-2 Inv-loop μ-loop
-loop-less-2 c = omega arith
-
-loop-again-2 : tie.Need-loop-again-2 Inv-loop μ-loop
-unfolding straightInk
-loop-again-2 c =
-    let v = c .before .before .before in
-    let turn = v .before .before in
-    let loop = turn .before in
-    row-next (loop .before .before .pre .0) (loop .loop .inv) (turn .loop-test .taken)
-    (c .over .ensures ∙ rw (v .straight-side .ensures, v .before .centre .ensures))
+    let start = loop .before .before in
+    row-next (start .pre .0) (loop .loop .inv) (turn .loop-test .taken)
+    (c .over-wide .ensures ∙ rw (side .straight-side .ensures (start .pre .1 .0 (loop .loop .x) (loop .loop .inv .from) (turn .loop-test .taken)) (start .pre .1 .1)))
 
 same-length : tie.Need-same-length Inv-loop μ-loop
 same-length c = omega arith
@@ -92,20 +78,17 @@ straight-span-spec =
     μ-loop
     mul-row
     loop-holds
-    cast-centre
-    centre-requires
+    mul-straight-side
+    element-copy-out-straight-side
     straight-side-requires
+    add-i
+    mul-over-wide
+    slice-read-over-wide
+    over-wide-requires
+    mul-px
+    slice-write-px
     add-x
     loop-less
     loop-again
-    add-i
-    mul-over
-    slice-read-over
-    over-requires
-    mul-px
-    slice-write-px
-    add-x-2
-    loop-less-2
-    loop-again-2
     same-length
     returns)
