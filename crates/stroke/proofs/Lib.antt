@@ -1,2 +1,3 @@
 -- The laws of an outline that belong to no one function.
 pub mod Gaps
+pub mod Levels

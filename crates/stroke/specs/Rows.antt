@@ -1,13 +1,55 @@
--- What the columns of a full row of an outline share.
+-- What the rows of an outline share, and the columns of a row.
 use mathlib.Core.Path.{_≡_}
+use mathlib.Core.Bool.{Bool, true, false, cond}
+use Prim.Native.Nat.{ℕ, _<_, _≤_}
 use lib.Ieee.{Float}
-use Rattle.mathf.specs.F32.{_-ᶠ_}
+use Rattle.mathf.specs.F32.{_+ᶠ_, _-ᶠ_, _≤ᶠ_, f0, f1}
 use Rattle.mathf.specs.Order.{fabsOf}
+use Rattle.mathf.specs.Whole.{floorOf, ceilOf}
+use Rattle.mathf.specs.Convert.{toI32}
+use Rattle.geom.specs.Int.{up}
+use Rattle.color.specs.declared.Color.{Color}
+use Rattle.color.specs.Inks.{overC}
+use Rattle.paints.specs.Paints.{centreOf}
 use Rattle.paints.specs.declared.Rounded.{Rounded}
 use Rattle.stroke.specs.declared.Level.{Level}
-use Rattle.stroke.specs.Stroke.{bandCover}
+use Rattle.stroke.specs.declared.Columns.{Columns}
+use Rattle.stroke.specs.declared.Frame.{Frame}
+use Rattle.stroke.specs.Stroke.{bandCover, gapFrom, gapUpto}
 
 -- of the row with the centre yc: how far it is past the sides, and the coverage where no corner or side is nearer
 pub record LevelOf (s : Rounded) (width yc : Float) (l : Level) : Type 0 where
   pub past : l .qy ≡ fabsOf (yc -ᶠ s .cy) -ᶠ (s .hh -ᶠ s .r)
   pub covered : l .level ≡ bandCover (l .qy -ᶠ s .r) width
+
+-- the gap of a row that passes a rounded corner, or of any other, and that of the row with the centre yc
+abbrev pub widthOf : Bool → Rounded → Float → Float
+widthOf corner s width = cond corner (s .r +ᶠ f1) (width +ᶠ f1)
+
+pub record GapOf (s : Rounded) (width : Float) (corner : Bool) (g : Columns) : Type 0 where
+  pub from : g .from ≡ up (toI32 (ceilOf (s .left +ᶠ widthOf corner s width)))
+  pub upto : g .upto ≡ up (toI32 (floorOf (s .right -ᶠ widthOf corner s width)))
+
+pub record RowGap (s : Rounded) (width yc : Float) (g : Columns) : Type 0 where
+  pub from : g .from ≡ up (gapFrom s width yc)
+  pub upto : g .upto ≡ up (gapUpto s width yc)
+
+-- no column from a up to b is past the straight parts of the top and the bottom
+unfoldable pub LevelIn : Rounded → ℕ → ℕ → Type 0
+LevelIn s a b = (x : ℕ) → a ≤ x → x < b → (fabsOf (centreOf x -ᶠ s .cx) -ᶠ (s .hw -ᶠ s .r) ≤ᶠ f0) ≡ true
+
+-- such columns of a row from x0 up to x1
+pub record LevelPart (s : Rounded) (x0 x1 : ℕ) (g : Columns) : Type 0 where
+  pub after : x0 ≤ g .from
+  pub order : g .from ≤ g .upto
+  pub before : g .upto ≤ x1
+  pub level : LevelIn s (g .from) (g .upto)
+
+-- an outline has the gaps of its rows
+pub record Ready (o : Frame) : Type 0 where
+  pub bent : GapOf (o .s) (o .width) true (o .bent)
+  pub straight : GapOf (o .s) (o .width) false (o .straight)
+
+-- one coverage for a whole part
+unfoldable pub levelInk : Color → ℕ → ℕ → ℕ → ℕ → ℕ
+levelInk c cv x y p = overC p c cv

@@ -15,7 +15,9 @@ use paints::both_positive;
 use paints::centre;
 use paints::corner_sd;
 ghost use mathlib.Core.Path.{_≡_};
-ghost use Prim.Native.Nat.{_+_};
+ghost use mathlib.Core.Bool.{false};
+ghost use Prim.Native.Nat.{_+_, _≤_};
+ghost use lib.Dec.{T};
 ghost use lib.Ieee.{Float};
 ghost use lib.ListN.{length};
 ghost use Rattle.mathf.specs.F32.{_+ᶠ_, f1};
@@ -23,9 +25,9 @@ ghost use Rattle.geom.specs.Int.{up};
 ghost use Rattle.draw.specs.Draw.{drawn};
 ghost use Rattle.draw.specs.Areas.{drawnIn, area, clipTo, RowFits, AreaFits};
 ghost use Rattle.gfx.specs.Calls.{Called, shapeNumber};
-ghost use Rattle.paints.specs.Paints.{circleRect, roundedSd};
-ghost use Rattle.stroke.specs.Stroke.{strokeOk, strokeReach, bandCover, fullRow, cornerRow, sideWidth, gapFrom, gapUpto, bandInk, outlineInk, strokeInk, ringOk};
-ghost use Rattle.stroke.specs.Rows.{LevelOf};
+ghost use Rattle.paints.specs.Paints.{circleRect, roundedSd, centreOf};
+ghost use Rattle.stroke.specs.Stroke.{strokeOk, strokeReach, bandCover, fullRow, cornerRow, bandInk, outlineInk, strokeInk, ringOk};
+ghost use Rattle.stroke.specs.Rows.{LevelOf, widthOf, GapOf, RowGap, LevelIn, LevelPart, Ready, levelInk};
 
 // The reach: nothing where the rectangle has no width or no height, or the colour no alpha.
 pub fn stroke_reach(rect: Rect, c: Color) -> IRect
@@ -64,54 +66,72 @@ fn corner_row(s: Rounded, yc: f32) -> bool
     (s.r > 0.0) & ((yc < s.top + s.r + 1.0) | (yc > s.bottom - s.r - 1.0))
 }
 
-// How far the two sides reach in, in a row that is not full.
-fn side_width(s: Rounded, width: f32, yc: f32) -> f32
-    ensures { λ d. ⌜ d ≡ sideWidth s width yc ⌝ }
+// Columns: the first, and the first past them.
+struct Columns {
+    from: usize,
+    upto: usize,
+}
+
+// How far the two sides reach in, in a row that is not full: in one that passes a rounded corner, or in any other.
+fn side_width(s: Rounded, width: f32, corner: bool) -> f32
+    ensures { λ d. ⌜ d ≡ widthOf corner s width ⌝ }
 {
-    if corner_row(s, yc) {
-        s.r + 1.0
-    } else {
-        width + 1.0
+    if corner { s.r + 1.0 } else { width + 1.0 }
+}
+
+// The columns between the two sides of a row that is not full: of one that passes a rounded corner, or of any other.
+fn gap(s: Rounded, width: f32, corner: bool) -> Columns
+    ensures { λ g. ⌜ GapOf s width corner g ⌝ }
+{
+    let wdt = side_width(s, width, corner);
+    let from = nat_of(mathf::to_i32(mathf::ceil(s.left + wdt)));
+    let upto = nat_of(mathf::to_i32(mathf::floor(s.right - wdt)));
+    Columns { from, upto }
+}
+
+// Whether no column from a up to b is past the straight parts of the top and the bottom.
+fn level_columns(s: Rounded, a: usize, b: usize) -> bool
+    requires { ⌜ b ≤ 2048 ⌝ }
+    ensures { λ t. ⌜ (T t → LevelIn s a b) ⌝ }
+{
+    for x in a..b {
+        let qx = mathf::fabs(centre(x as u16) - s.cx) - (s.hw - s.r);
+        if !(qx <= 0.0) {
+            return false;
+        }
     }
+    true
 }
 
-// The first column between the two sides, and the first past it.
-fn gap_from(s: Rounded, width: f32, yc: f32) -> usize
-    ensures { λ x. ⌜ x ≡ up (gapFrom s width yc) ⌝ }
+// Such columns between x0 and x1; none where they were not found.
+fn level_part(s: Rounded, x0: usize, x1: usize) -> Columns
+    requires { ⌜ (x0 ≤ x1) × (x1 ≤ 2048) ⌝ }
+    ensures { λ g. ⌜ LevelPart s x0 x1 g ⌝ }
 {
-    nat_of(mathf::to_i32(mathf::ceil(s.left + side_width(s, width, yc))))
+    let from = between(
+        nat_of(mathf::to_i32(mathf::ceil(s.cx - (s.hw - s.r)))),
+        x0,
+        x1,
+    );
+    let upto = between(
+        nat_of(mathf::to_i32(mathf::floor(s.cx + (s.hw - s.r)))),
+        from,
+        x1,
+    );
+    if level_columns(s, from, upto) {
+        return Columns { from, upto };
+    }
+    Columns { from: x1, upto: x1 }
 }
 
-fn gap_upto(s: Rounded, width: f32, yc: f32) -> usize
-    ensures { λ x. ⌜ x ≡ up (gapUpto s width yc) ⌝ }
-{
-    nat_of(mathf::to_i32(mathf::floor(s.right - side_width(s, width, yc))))
-}
-
-// A part of row y, by distance.
-fn band_span(
-    px: &mut [u32],
-    w: usize,
-    y: usize,
-    x0: usize,
-    x1: usize,
+// An outline as its rows ask for it: the gaps of rows beside the corners and of others, and the columns beside no corner.
+struct Frame {
     s: Rounded,
     width: f32,
     c: Color,
-)
-    requires { ⌜ RowFits w y x0 x1 (length (now px)) ⌝ }
-    ensures { λ _. ⌜ now (px .exit) ≡ drawnIn w (area x0 y x1 (y + 1)) (bandInk s width c) (now (px .entry)) ⌝ }
-{
-    let row = y * w;
-    let yc = centre(y as u16);
-    for x in x0..x1 {
-        let cv = band_cover(s.sd(centre(x as u16), yc), width);
-        if cv == 0 {
-            continue;
-        }
-        let i = row + x;
-        px[i] = blend_c(px[i], c, cv);
-    }
+    bent: Columns,
+    straight: Columns,
+    level: Columns,
 }
 
 // What the columns of a row share: how far it is past the sides, and its coverage beside the corners.
@@ -144,70 +164,132 @@ fn level_cover(s: Rounded, width: f32, l: Level, xc: f32) -> u32
     l.level
 }
 
-// Row y where it is full: its coverage beside the corners is worked out once.
-fn full_span(
-    px: &mut [u32],
-    w: usize,
-    y: usize,
-    x0: usize,
-    x1: usize,
-    s: Rounded,
-    width: f32,
-    c: Color,
-)
+// A part of row y, by distance: what its columns share comes with it.
+fn band_span(px: &mut [u32], w: usize, y: usize, x0: usize, x1: usize, o: Frame, l: Level)
     requires { ⌜ RowFits w y x0 x1 (length (now px)) ⌝ }
-    ensures { λ _. ⌜ now (px .exit) ≡ drawnIn w (area x0 y x1 (y + 1)) (bandInk s width c) (now (px .entry)) ⌝ }
+    requires { ⌜ LevelOf (o .s) (o .width) (centreOf y) l ⌝ }
+    ensures { λ _. ⌜ now (px .exit) ≡ drawnIn w (area x0 y x1 (y + 1)) (bandInk (o .s) (o .width) (o .c)) (now (px .entry)) ⌝ }
 {
     let row = y * w;
-    let yc = centre(y as u16);
-    let l = level_of(s, width, yc);
     for x in x0..x1 {
-        let cv = level_cover(s, width, l, centre(x as u16));
+        let cv = level_cover(o.s, o.width, l, centre(x as u16));
         if cv == 0 {
             continue;
         }
+        let i = row + x;
+        px[i] = blend_c(px[i], o.c, cv);
+    }
+}
+
+// A part of row y at one coverage.
+fn level_span(px: &mut [u32], w: usize, y: usize, x0: usize, x1: usize, c: Color, cv: u32)
+    requires { ⌜ RowFits w y x0 x1 (length (now px)) ⌝ }
+    ensures { λ _. ⌜ now (px .exit) ≡ drawnIn w (area x0 y x1 (y + 1)) (levelInk c cv) (now (px .entry)) ⌝ }
+{
+    let row = y * w;
+    for x in x0..x1 {
         let i = row + x;
         px[i] = blend_c(px[i], c, cv);
     }
 }
 
-// Row y: whole, or its two sides.
-fn outline_row(
+// Row y where it is full: beside no corner it has one coverage.
+fn full_span(px: &mut [u32], w: usize, y: usize, x0: usize, x1: usize, o: Frame, l: Level)
+    requires { ⌜ RowFits w y x0 x1 (length (now px)) ⌝ }
+    requires { ⌜ LevelOf (o .s) (o .width) (centreOf y) l × LevelPart (o .s) x0 x1 (o .level) ⌝ }
+    ensures { λ _. ⌜ now (px .exit) ≡ drawnIn w (area x0 y x1 (y + 1)) (bandInk (o .s) (o .width) (o .c)) (now (px .entry)) ⌝ }
+{
+    if l.qy >= 0.0 {
+        let a = o.level.from;
+        let b = o.level.upto;
+        band_span(px, w, y, x0, a, o, l);
+        level_span(px, w, y, a, b, o.c, l.level);
+        band_span(px, w, y, b, x1, o, l);
+    } else {
+        band_span(px, w, y, x0, x1, o, l);
+    }
+}
+
+// The two sides of row y, with a gap between them.
+fn side_spans(
     px: &mut [u32],
     w: usize,
     y: usize,
     x0: usize,
     x1: usize,
-    s: Rounded,
-    width: f32,
-    c: Color,
+    o: Frame,
+    l: Level,
+    g: Columns,
 )
     requires { ⌜ RowFits w y x0 x1 (length (now px)) ⌝ }
-    ensures { λ _. ⌜ now (px .exit) ≡ drawnIn w (area x0 y x1 (y + 1)) (outlineInk s width c) (now (px .entry)) ⌝ }
+    requires { ⌜ LevelOf (o .s) (o .width) (centreOf y) l × RowGap (o .s) (o .width) (centreOf y) g × (fullRow (o .s) (o .width +ᶠ f1) (centreOf y) ≡ false) ⌝ }
+    ensures { λ _. ⌜ now (px .exit) ≡ drawnIn w (area x0 y x1 (y + 1)) (outlineInk (o .s) (o .width) (o .c)) (now (px .entry)) ⌝ }
+{
+    let a = between(g.from, x0, x1);
+    let b = between(g.upto, a, x1);
+    band_span(px, w, y, x0, a, o, l);
+    band_span(px, w, y, b, x1, o, l);
+}
+
+// The gap of a row.
+fn row_gap(o: Frame, yc: f32) -> Columns
+    requires { ⌜ Ready o ⌝ }
+    ensures { λ g. ⌜ RowGap (o .s) (o .width) yc g ⌝ }
+{
+    if corner_row(o.s, yc) {
+        o.bent
+    } else {
+        o.straight
+    }
+}
+
+// Row y: whole, or its two sides.
+fn outline_row(px: &mut [u32], w: usize, y: usize, x0: usize, x1: usize, o: Frame)
+    requires { ⌜ RowFits w y x0 x1 (length (now px)) ⌝ }
+    requires { ⌜ Ready o × LevelPart (o .s) x0 x1 (o .level) ⌝ }
+    ensures { λ _. ⌜ now (px .exit) ≡ drawnIn w (area x0 y x1 (y + 1)) (outlineInk (o .s) (o .width) (o .c)) (now (px .entry)) ⌝ }
 {
     let yc = centre(y as u16);
-    if full_row(s, width + 1.0, yc) {
-        full_span(px, w, y, x0, x1, s, width, c);
-        return;
+    let l = level_of(o.s, o.width, yc);
+    if full_row(o.s, o.width + 1.0, yc) {
+        full_span(px, w, y, x0, x1, o, l);
+    } else {
+        side_spans(px, w, y, x0, x1, o, l, row_gap(o, yc));
     }
-    let a = between(gap_from(s, width, yc), x0, x1);
-    let b = between(gap_upto(s, width, yc), a, x1);
-    band_span(px, w, y, x0, a, s, width, c);
-    band_span(px, w, y, b, x1, s, width, c);
 }
 
 // The rows of an area.
-fn outline_box(px: &mut [u32], w: usize, b: Area, s: Rounded, width: f32, c: Color)
+fn outline_box(px: &mut [u32], w: usize, b: Area, o: Frame)
     requires { ⌜ AreaFits w b (length (now px)) ⌝ }
-    ensures { λ _. ⌜ now (px .exit) ≡ drawnIn w b (outlineInk s width c) (now (px .entry)) ⌝ }
+    requires { ⌜ Ready o × LevelPart (o .s) (b .x0) (b .x1) (o .level) ⌝ }
+    ensures { λ _. ⌜ now (px .exit) ≡ drawnIn w b (outlineInk (o .s) (o .width) (o .c)) (now (px .entry)) ⌝ }
 {
     let x0 = b.x0;
     let x1 = b.x1;
     let y0 = b.y0;
     let y1 = b.y1;
     for y in y0..y1 {
-        outline_row(px, w, y, x0, x1, s, width, c);
+        outline_row(px, w, y, x0, x1, o);
     }
+}
+
+// An area of the outline of a rectangle: what its rows share is worked out first.
+fn outline_area(px: &mut [u32], w: usize, b: Area, s: Rounded, width: f32, c: Color)
+    requires { ⌜ AreaFits w b (length (now px)) ⌝ }
+    ensures { λ _. ⌜ now (px .exit) ≡ drawnIn w b (outlineInk s width c) (now (px .entry)) ⌝ }
+{
+    let bent = gap(s, width, true);
+    let straight = gap(s, width, false);
+    let level = level_part(s, b.x0, b.x1);
+    let o = Frame {
+        s,
+        width,
+        c,
+        bent,
+        straight,
+        level,
+    };
+    outline_box(px, w, b, o);
 }
 
 // The outline of a rectangle whose floats were tested by the caller.
@@ -229,7 +311,7 @@ fn outline(
     let w = nat_of(canvas.w);
     let clip = canvas.clip;
     let b = clipped(stroke_reach(rect, c), clip);
-    outline_box(px, w, b, Rounded::of(rect, r), width, c);
+    outline_area(px, w, b, Rounded::of(rect, r), width, c);
     Done { number, canvas }
 }
 

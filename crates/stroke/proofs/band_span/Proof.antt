@@ -1,21 +1,34 @@
 -- `stroke::band_span` meets its contract. The columns before x are drawn. Assumes nothing.
-use mathlib.Core.Path.{_∙_}
+use mathlib.Core.Path.{_≡_, sym, _∙_}
 use Prim.Native.Nat.{_-_}
 use native.Mathlib.Omega.{arith}
 use Rattle.color.proofs.Overs.{overC-idle}
 use Rattle.draw.proofs.Loops.{InRow, row-start, row-next, row-pass, row-end}
-use Rattle.stroke.specs.Stroke.{bandInk}
+use Rattle.paints.specs.Paints.{centreOf, roundedSd}
+use Rattle.stroke.specs.Stroke.{bandCover, bandInk}
 use Rattle.stroke.proofs.band_span.Statement.{statement}
 use Rattle.stroke.proofs.band_span.Tie as tie
 
 abbrev Inv-loop : tie.InvT-loop
-Inv-loop px₀ w y x0 x1 s width c row yc x₀ px x = InRow w (bandInk s width c) y x0 x1 px₀ px x
+Inv-loop px₀ w y x0 x1 o l row x₀ px x = InRow w (bandInk (o .s) (o .width) (o .c)) y x0 x1 px₀ px x
 
 abbrev μ-loop : tie.MeasureT-loop
-μ-loop px₀ w y x0 x1 s width c row yc x₀ px x = x1 - x
+μ-loop px₀ w y x0 x1 o l row x₀ px x = x1 - x
+
+-- the coverage at column x, by the centres of x and y
+at-centre : (c : tie.After-level-cover Inv-loop μ-loop) → let loop = c .before .before .before in let args = loop .before .before .args in
+    c .level-cover .result ≡ bandCover (roundedSd (args .o .s) (centreOf (loop .loop .x)) (centreOf (args .y))) (args .o .width)
+at-centre c =
+    let start = c .before .before .before .before .before in
+    c .level-cover .ensures _ (start .pre .1) ∙ rw (c .before .centre .ensures)
 
 mul-row : tie.Need-mul-row Inv-loop μ-loop
 mul-row c = omega arith
+
+loop-holds : tie.Need-loop-holds Inv-loop μ-loop
+loop-holds c =
+    let o = c .before .args .o in
+    row-start _ (bandInk (o .s) (o .width) (o .c)) _ _ _ _ (c .before .pre .0 .order)
 
 cast-centre : tie.Need-cast-centre Inv-loop μ-loop
 cast-centre c = omega arith
@@ -23,22 +36,8 @@ cast-centre c = omega arith
 centre-requires : tie.Need-centre-requires Inv-loop μ-loop
 centre-requires c κs = omega arith
 
-loop-holds : tie.Need-loop-holds Inv-loop μ-loop
-loop-holds c =
-    let args = c .before .before .args in
-    row-start _ (bandInk (args .s) (args .width) (args .c)) _ _ _ _ (c .before .before .pre .order)
-
-cast-centre-2 : tie.Need-cast-centre-2 Inv-loop μ-loop
-cast-centre-2 c = omega arith
-
-centre-requires-2 : tie.Need-centre-requires-2 Inv-loop μ-loop
-centre-requires-2 c κs = omega arith
-
-sd-requires : tie.Need-sd-requires Inv-loop μ-loop
-sd-requires c κs = omega arith
-
-band-cover-requires : tie.Need-band-cover-requires Inv-loop μ-loop
-band-cover-requires c κs = omega arith
+level-cover-requires : tie.Need-level-cover-requires Inv-loop μ-loop
+level-cover-requires c κs = omega arith
 
 add-x : tie.Need-add-x Inv-loop μ-loop
 add-x c = omega arith
@@ -49,11 +48,10 @@ loop-less c = omega arith
 loop-again : tie.Need-loop-again Inv-loop μ-loop
 unfolding bandInk
 loop-again c =
-    let turn = c .before .before .before .before in
+    let turn = c .before .before .before in
     let loop = turn .before in
-    row-pass (loop .before .before .before .pre) (loop .loop .inv) (turn .loop-test .taken)
-    (overC-idle _ _ _
-    (rw (← (loop .before .centre .ensures), ← (c .before .before .before .centre2 .ensures), ← (c .before .before .sd .ensures), ← (c .before .band-cover .ensures)) (c .if1 .taken)))
+    row-pass (loop .before .before .pre .0) (loop .loop .inv) (turn .loop-test .taken)
+    (overC-idle _ _ _ (sym (at-centre (c .before)) ∙ c .if1 .taken))
 
 add-i : tie.Need-add-i Inv-loop μ-loop
 add-i c = omega arith
@@ -82,11 +80,10 @@ loop-less-2 c = omega arith
 loop-again-2 : tie.Need-loop-again-2 Inv-loop μ-loop
 unfolding bandInk
 loop-again-2 c =
-    let turn = c .before .before .before .before .before .before in
+    let cover = c .before .before .before in
+    let turn = cover .before .before in
     let loop = turn .before in
-    row-next (loop .before .before .before .pre) (loop .loop .inv) (turn .loop-test .taken)
-    (c .blend-c .ensures
-    ∙ rw (c .before .before .before .band-cover .ensures, c .before .before .before .before .sd .ensures, c .before .before .before .before .before .centre2 .ensures, loop .before .centre .ensures))
+    row-next (loop .before .before .pre .0) (loop .loop .inv) (turn .loop-test .taken) (c .blend-c .ensures ∙ rw (at-centre cover))
 
 same-length : tie.Need-same-length Inv-loop μ-loop
 same-length c = omega arith
@@ -101,13 +98,10 @@ band-span-spec =
     Inv-loop
     μ-loop
     mul-row
+    loop-holds
     cast-centre
     centre-requires
-    loop-holds
-    cast-centre-2
-    centre-requires-2
-    sd-requires
-    band-cover-requires
+    level-cover-requires
     add-x
     loop-less
     loop-again

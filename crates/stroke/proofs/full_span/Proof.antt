@@ -1,130 +1,47 @@
--- `stroke::full_span` meets its contract. The columns before x are drawn. Assumes nothing.
-use mathlib.Core.Path.{_≡_, sym, _∙_}
-use Prim.Native.Nat.{_-_}
+-- `stroke::full_span` meets its contract. Assumes nothing.
+use mathlib.Core.Path.{refl}
 use native.Mathlib.Omega.{arith}
-use Rattle.color.proofs.Overs.{overC-idle}
-use Rattle.draw.proofs.Loops.{InRow, row-start, row-next, row-pass, row-end}
-use Rattle.paints.specs.Paints.{centreOf, roundedSd}
-use Rattle.stroke.specs.Stroke.{bandCover, bandInk}
+use Rattle.draw.proofs.Loops.{row-three}
+use Rattle.stroke.specs.Stroke.{bandInk}
+use Rattle.stroke.specs.Rows.{levelInk}
+use Rattle.stroke.proofs.Levels.{level-at}
 use Rattle.stroke.proofs.full_span.Statement.{statement}
 use Rattle.stroke.proofs.full_span.Tie as tie
 
-abbrev Inv-loop : tie.InvT-loop
-Inv-loop px₀ w y x0 x1 s width c row yc l x₀ px x = InRow w (bandInk s width c) y x0 x1 px₀ px x
+band-span-requires : tie.Need-band-span-requires
+band-span-requires c κs = (omega arith, c .before .before .before .before .pre .1 .0)
 
-abbrev μ-loop : tie.MeasureT-loop
-μ-loop px₀ w y x0 x1 s width c row yc l x₀ px x = x1 - x
+level-span-requires : tie.Need-level-span-requires
+level-span-requires c κs = omega arith
 
--- the coverage at column x, by the centres of x and y
-at-centre : (c : tie.After-level-cover Inv-loop μ-loop) → let loop = c .before .before .before in let args = loop .before .before .before .before .args in
-    c .level-cover .result ≡ bandCover (roundedSd (args .s) (centreOf (loop .loop .x)) (centreOf (args .y))) (args .width)
-at-centre c =
-    let level = c .before .before .before .before in
-    c .level-cover .ensures _ (level .level-of .ensures) ∙ rw (c .before .centre2 .ensures, level .before .centre .ensures)
+band-span-requires-2 : tie.Need-band-span-requires-2
+band-span-requires-2 c κs = (omega (arith, c .before .before .before .before .before .before .before .before .before .before .before .before .pre .0, c .before .before .before .before .before .before .before .before .before .before .before .before .pre .1 .1), c .before .before .before .before .before .before .before .before .before .before .before .before .pre .1 .0)
 
-mul-row : tie.Need-mul-row Inv-loop μ-loop
-mul-row c = omega arith
+band-span-requires-3 : tie.Need-band-span-requires-3
+band-span-requires-3 c κs = (c .before .before .before .before .pre .0, c .before .before .before .before .pre .1 .0)
 
-cast-centre : tie.Need-cast-centre Inv-loop μ-loop
-cast-centre c = omega arith
-
-centre-requires : tie.Need-centre-requires Inv-loop μ-loop
-centre-requires c κs = omega arith
-
-level-of-requires : tie.Need-level-of-requires Inv-loop μ-loop
-level-of-requires c κs = omega arith
-
-loop-holds : tie.Need-loop-holds Inv-loop μ-loop
-loop-holds c =
-    let args = c .before .before .before .args in
-    row-start _ (bandInk (args .s) (args .width) (args .c)) _ _ _ _ (c .before .before .before .pre .order)
-
-cast-centre-2 : tie.Need-cast-centre-2 Inv-loop μ-loop
-cast-centre-2 c = omega arith
-
-centre-requires-2 : tie.Need-centre-requires-2 Inv-loop μ-loop
-centre-requires-2 c κs = omega arith
-
-level-cover-requires : tie.Need-level-cover-requires Inv-loop μ-loop
-level-cover-requires c κs = omega arith
-
-add-x : tie.Need-add-x Inv-loop μ-loop
-add-x c = omega arith
-
-loop-less : tie.Need-loop-less Inv-loop μ-loop
-loop-less c = omega arith
-
-loop-again : tie.Need-loop-again Inv-loop μ-loop
-unfolding bandInk
-loop-again c =
-    let turn = c .before .before .before in
-    let loop = turn .before in
-    row-pass (loop .before .before .before .before .pre) (loop .loop .inv) (turn .loop-test .taken)
-    (overC-idle _ _ _ (sym (at-centre (c .before)) ∙ c .if1 .taken))
-
-add-i : tie.Need-add-i Inv-loop μ-loop
-add-i c = omega arith
-
-mul-blend-c : tie.Need-mul-blend-c Inv-loop μ-loop
-mul-blend-c c = omega arith
-
-slice-read-blend-c : tie.Need-slice-read-blend-c Inv-loop μ-loop
-slice-read-blend-c c = omega arith
-
-blend-c-requires : tie.Need-blend-c-requires Inv-loop μ-loop
-blend-c-requires c κs = omega arith
-
-mul-px : tie.Need-mul-px Inv-loop μ-loop
-mul-px c = omega arith
-
-slice-write-px : tie.Need-slice-write-px Inv-loop μ-loop
-slice-write-px c = omega arith
-
-add-x-2 : tie.Need-add-x-2 Inv-loop μ-loop
-add-x-2 c = omega arith
-
-loop-less-2 : tie.Need-loop-less-2 Inv-loop μ-loop
-loop-less-2 c = omega arith
-
-loop-again-2 : tie.Need-loop-again-2 Inv-loop μ-loop
-unfolding bandInk
-loop-again-2 c =
-    let cover = c .before .before .before in
-    let turn = cover .before .before in
-    let loop = turn .before in
-    row-next (loop .before .before .before .before .pre) (loop .loop .inv) (turn .loop-test .taken) (c .blend-c .ensures ∙ rw (at-centre cover))
-
-same-length : tie.Need-same-length Inv-loop μ-loop
+same-length : tie.Need-same-length
 same-length c = omega arith
 
-returns : tie.Need-returns Inv-loop μ-loop
-returns c = row-end (c .before .loop .inv) (c .loop-test .left)
+returns : tie.Need-returns
+returns c =
+    let mid = c .before .before .before .before .before .before in
+    let left = mid .before .before .before .before in
+    let st = left .before .before .before .before .before in
+    let a = st .args in
+    let part = st .pre .1 .1 in
+    let ink = bandInk (a .o .s) (a .o .width) (a .o .c) in
+    row-three (a .w) ink ink (levelInk (a .o .c) (a .l .level)) ink (a .y) (a .x0) (a .o .level .from) (a .o .level .upto) (a .x1) _ _ _ _ (part .after) (part .order) (part .before)
+    (left .band-span .ensures) (mid .level-span .ensures) (c .before .before .band-span2 .ensures)
+    (λ x p h u. refl)
+    (λ x p h u. level-at (a .o .s) (a .o .width) (a .o .c) (a .l) _ _ x (a .y) p (part .level) (st .pre .1 .0) (left .before .before .if1 .taken) h u)
+    (λ x p h u. refl)
+
+same-length-2 : tie.Need-same-length-2
+same-length-2 c = omega arith
+
+returns-2 : tie.Need-returns-2
+returns-2 c = c .before .before .band-span3 .ensures
 
 pub full-span-spec : {M : Type 1} → statement M
-full-span-spec =
-    tie.close
-    (tie.spec
-    Inv-loop
-    μ-loop
-    mul-row
-    cast-centre
-    centre-requires
-    level-of-requires
-    loop-holds
-    cast-centre-2
-    centre-requires-2
-    level-cover-requires
-    add-x
-    loop-less
-    loop-again
-    add-i
-    mul-blend-c
-    slice-read-blend-c
-    blend-c-requires
-    mul-px
-    slice-write-px
-    add-x-2
-    loop-less-2
-    loop-again-2
-    same-length
-    returns)
+full-span-spec = tie.close (tie.spec band-span-requires level-span-requires band-span-requires-2 band-span-requires-3 same-length returns same-length-2 returns-2)

@@ -33,8 +33,8 @@ clipped-requires c κs = search needs
 of-requires : tie.Need-of-requires
 of-requires c κs = search needs
 
-outline-box-requires : tie.Need-outline-box-requires
-outline-box-requires c κs =
+outline-area-requires : tie.Need-outline-area-requires
+outline-area-requires c κs =
     let b = c .before .before in
     let n = b .before .before .before in
     let d = n .before .before in
@@ -49,7 +49,7 @@ returns-2 c =
     let b = o .before .before .before in
     let n = b .before .before .before in
     let d = n .before .before in
-    let d′ = rw (wide n, b .clipped .ensures, b .before .stroke-reach .ensures, o .before .of .ensures) at (o .outline-box .ensures) in
+    let d′ = rw (wide n, b .clipped .ensures, b .before .stroke-reach .ensures, o .before .of .ensures) at (o .outline-area .ensures) in
     let e = d′ ∙ sym (drawn-clip _ _ _ _ _) in
     rw e (accepted-call (d .before .shape-number .ensures) (d .if1 .left))
 
@@ -63,6 +63,6 @@ outline-spec =
     stroke-reach-requires
     clipped-requires
     of-requires
-    outline-box-requires
+    outline-area-requires
     same-length
     returns-2)

@@ -7,20 +7,21 @@ use Rattle.stroke.proofs.outline_box.Statement.{statement}
 use Rattle.stroke.proofs.outline_box.Tie as tie
 
 abbrev Inv-loop : tie.InvT-loop
-Inv-loop px₀ w s width c x0 x1 y0 y1 y₀ px y = InRows w (outlineInk s width c) x0 x1 y0 y1 px₀ px y
+Inv-loop px₀ w o x0 x1 y0 y1 y₀ px y = InRows w (outlineInk (o .s) (o .width) (o .c)) x0 x1 y0 y1 px₀ px y
 
 abbrev μ-loop : tie.MeasureT-loop
-μ-loop px₀ w s width c x0 x1 y0 y1 y₀ px y = y1 - y
+μ-loop px₀ w o x0 x1 y0 y1 y₀ px y = y1 - y
 
 loop-holds : tie.Need-loop-holds Inv-loop μ-loop
 loop-holds c =
-    let args = c .before .args in
-    rows-start _ (outlineInk (args .s) (args .width) (args .c)) _ _ _ _ _ (c .before .pre .down)
+    let o = c .before .args .o in
+    rows-start _ (outlineInk (o .s) (o .width) (o .c)) _ _ _ _ _ (c .before .pre .0 .down)
 
 outline-row-requires : tie.Need-outline-row-requires Inv-loop μ-loop
 outline-row-requires c κs =
     let l = c .before .before in
-    row-fits (l .before .before .pre) (l .loop .inv) (c .before .loop-test .taken)
+    let p = l .before .before .pre in
+    (row-fits (p .0) (l .loop .inv) (c .before .loop-test .taken), p .1)
 
 add-y : tie.Need-add-y Inv-loop μ-loop
 add-y c = omega arith

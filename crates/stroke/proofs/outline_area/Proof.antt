@@ -1,0 +1,26 @@
+-- `stroke::outline_area` meets its contract. Assumes nothing.
+use native.Mathlib.Omega.{arith}
+use borrow.Author.Needs.{needs}
+use Rattle.stroke.proofs.outline_area.Statement.{statement}
+use Rattle.stroke.proofs.outline_area.Tie as tie
+
+gap-requires : tie.Need-gap-requires
+gap-requires c κs = search needs
+
+gap-requires-2 : tie.Need-gap-requires-2
+gap-requires-2 c κs = search needs
+
+level-part-requires : tie.Need-level-part-requires
+level-part-requires c κs = (c .before .before .before .pre .across, c .before .before .before .pre .wide)
+
+outline-box-requires : tie.Need-outline-box-requires
+outline-box-requires c κs = (c .before .before .before .before .before .pre, (record { bent = c .before .before .before .gap .ensures; straight = c .before .before .gap2 .ensures }, c .before .level-part .ensures))
+
+same-length : tie.Need-same-length
+same-length c = omega arith
+
+returns : tie.Need-returns
+returns c = c .before .before .outline-box .ensures
+
+pub outline-area-spec : {M : Type 1} → statement M
+outline-area-spec = tie.close (tie.spec gap-requires gap-requires-2 level-part-requires outline-box-requires same-length returns)
