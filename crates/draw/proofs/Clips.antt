@@ -6,7 +6,7 @@
 --     shape-at      one pixel of what a shape leaves
 --     clip-fits     what a clip that is empty or inside the canvas lets through lies within px
 -- Assumes nothing.
-use mathlib.Core.Path.{_≡_, refl, sym, ap, _∙_}
+use mathlib.Core.Path.{_≡_, refl, sym, _∙_}
 use mathlib.Core.Bool.{Bool, true, false, cond, _&&_}
 use mathlib.Core.List.{List}
 use mathlib.Core.Logic.{_⊎_, ⊎-elim}
@@ -21,7 +21,6 @@ use Rattle.geom.proofs.Bools.{split}
 use Rattle.geom.specs.Int.{up}
 use Rattle.geom.proofs.Int.{orderZ, le-up, lt-up}
 use Rattle.geom.proofs.Boxes.{in-pixel, in-meet, in-empty, Within, meet-right, cut-in, holds-full, within-nat}
-use Rattle.draw.specs.declared.Area.{Area}
 use Rattle.draw.specs.Draw.{meets, drawn, inColumns}
 use Rattle.draw.specs.Areas.{within, area, inArea, areaOf, drawnIn, clipTo, AreaFits}
 use Rattle.draw.proofs.Onto.{length-onto, getD-onto}

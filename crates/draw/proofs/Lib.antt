@@ -3,3 +3,4 @@ pub mod Onto
 pub mod Rows
 pub mod Loops
 pub mod Clips
+pub mod Held

@@ -2,7 +2,7 @@
 use mathlib.Core.Bool.{Bool, true, cond}
 use mathlib.Core.Path.{_≡_}
 use mathlib.Core.List.{List}
-use Prim.Native.Nat.{ℕ, _+_, _-_, _<_, _≤_}
+use Prim.Native.Nat.{ℕ, _+_, _-_}
 use lib.ListN.{getD}
 use lib.Dec.{T}
 use lib.Ieee.{Float, binary32, fits}
@@ -37,10 +37,6 @@ columnAlpha h x = alphaOf (h .c .a) (h .blur) (fabsOf (centreOf x -ᶠ h .s .cx)
 
 unfoldable pub sideAlpha : Shade → Float → ℕ → ℕ → ℕ
 sideAlpha h qy x0 k = cornerSide (h .s) (h .c .a) (h .blur) qy (centreOf (x0 + k))
-
--- the places x0 up to x1 of a row hold what f gives of their columns
-unfoldable pub Holds : (ℕ → ℕ) → ℕ → ℕ → List ℕ → Type 0
-Holds f x0 x1 row = (x : ℕ) → x0 ≤ x → x < x1 → getD row x 0 ≡ f x
 
 -- each column at its alpha, of which x0 has the first
 unfoldable pub eachInk : Color → ℕ → List ℕ → ℕ → ℕ → ℕ → ℕ

@@ -20,11 +20,12 @@ ghost use Rattle.mathf.specs.F32.{_-ᶠ_, _/ᶠ_, _*ᶠ_, f2, f96};
 ghost use Rattle.mathf.specs.Root.{sqrtOf};
 ghost use Rattle.geom.specs.Int.{up};
 ghost use Rattle.draw.specs.Draw.{drawn};
+ghost use Rattle.draw.specs.Held.{Holds};
 ghost use Rattle.draw.specs.Areas.{drawnIn, area, RowFits, AreaFits};
 ghost use Rattle.gfx.specs.Calls.{Called, shapeNumber};
 ghost use Rattle.paints.specs.Paints.{centreOf};
 ghost use Rattle.shadow.specs.Shadow.{shadowOk, shadowReach, levelOf, table, stepsOut, alphaOf, rowDy, rowQy, straightFrom, straightUpto, straightMiddle, straightSide, cornerFrom, cornerUpto, cornerSide, shadeInk, shadowInk};
-ghost use Rattle.shadow.specs.Spans.{Faded, Table, Holds, columnAlpha, sideAlpha, eachInk, tableAlpha, flatInk, straightInk, cornerInk, straightRowInk, cornerRowInk};
+ghost use Rattle.shadow.specs.Spans.{Faded, Table, columnAlpha, sideAlpha, eachInk, tableAlpha, flatInk, straightInk, cornerInk, straightRowInk, cornerRowInk};
 
 // The reach: nothing where the colour has no alpha or the blur is not above 0.
 pub fn shadow_reach(rect: Rect, blur: f32, c: Color) -> IRect

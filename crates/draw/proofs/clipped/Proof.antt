@@ -1,5 +1,4 @@
 -- `draw::clipped` meets its contract. Assumes nothing.
-use mathlib.Core.Path.{_∙_, sym}
 use borrow.Author.Needs.{needs}
 use Rattle.draw.specs.Areas.{clipTo}
 use Rattle.draw.proofs.clipped.Statement.{statement}

@@ -3,7 +3,7 @@ use native.Mathlib.Omega.{arith}
 use mathlib.Core.Path.{refl}
 use Prim.Native.Nat.{_-_}
 use Rattle.shadow.specs.Spans.{columnAlpha}
-use Rattle.shadow.proofs.Held.{Filling, held-start, held-next, held-end}
+use Rattle.draw.proofs.Held.{Filling, held-start, held-next, held-end}
 use Rattle.shadow.proofs.columns.Statement.{statement}
 use Rattle.shadow.proofs.columns.Tie as tie
 

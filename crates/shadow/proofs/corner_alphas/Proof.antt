@@ -3,7 +3,7 @@ use mathlib.Core.Path.{refl, _∙_}
 use Prim.Native.Nat.{_-_}
 use native.Mathlib.Omega.{arith}
 use Rattle.shadow.specs.Spans.{sideAlpha}
-use Rattle.shadow.proofs.Held.{Filling, held-start, held-next, held-end}
+use Rattle.draw.proofs.Held.{Filling, held-start, held-next, held-end}
 use Rattle.shadow.proofs.corner_alphas.Statement.{statement}
 use Rattle.shadow.proofs.corner_alphas.Tie as tie
 

@@ -6,7 +6,8 @@ use Rattle.color.specs.Inks.{over}
 use Rattle.draw.proofs.Rows.{row-same}
 use Rattle.paints.specs.Paints.{centreOf}
 use Rattle.shadow.specs.Shadow.{cornerSide}
-use Rattle.shadow.specs.Spans.{Holds, sideAlpha, cornerInk, eachInk}
+use Rattle.draw.specs.Held.{Holds}
+use Rattle.shadow.specs.Spans.{sideAlpha, cornerInk, eachInk}
 use Rattle.shadow.proofs.corner_part.Statement.{statement}
 use Rattle.shadow.proofs.corner_part.Tie as tie
 

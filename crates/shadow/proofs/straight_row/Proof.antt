@@ -3,7 +3,7 @@ use native.Mathlib.Omega.{arith}
 use Rattle.shadow.specs.Shadow.{straightFrom, straightUpto}
 use Rattle.shadow.specs.Spans.{columnAlpha, flatInk, straightInk, straightRowInk}
 use Rattle.shadow.proofs.Parts.{parts, straight-out, straight-in}
-use Rattle.shadow.proofs.Held.{held-part}
+use Rattle.draw.proofs.Held.{held-part}
 use borrow.Author.Needs.{needs}
 use Rattle.shadow.proofs.straight_row.Statement.{statement}
 use Rattle.shadow.proofs.straight_row.Tie as tie

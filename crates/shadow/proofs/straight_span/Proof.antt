@@ -3,7 +3,8 @@ use native.Mathlib.Omega.{arith}
 use Prim.Native.Nat.{_-_}
 use mathlib.Core.Path.{_∙_}
 use Rattle.draw.proofs.Loops.{InRow, row-start, row-next, row-end}
-use Rattle.shadow.specs.Spans.{Holds, straightInk}
+use Rattle.draw.specs.Held.{Holds}
+use Rattle.shadow.specs.Spans.{straightInk}
 use Rattle.shadow.proofs.straight_span.Statement.{statement}
 use Rattle.shadow.proofs.straight_span.Tie as tie
 

@@ -7,7 +7,7 @@ use native.Mathlib.Nat.{eq-or-lt-of-le}
 use native.Mathlib.Omega.{arith}
 use lib.ListN.{length, getD, set, length-set}
 use lib.Seq.{getD-set-same, getD-set-other}
-use Rattle.shadow.specs.Spans.{Holds}
+use Rattle.draw.specs.Held.{Holds}
 
 -- the places x0 up to x are filled
 pub record Filling (f : ℕ → ℕ) (size x0 x1 : ℕ) (row : List ℕ) (x : ℕ) : Type 0 where
