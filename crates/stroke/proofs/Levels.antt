@@ -34,7 +34,7 @@ module _ (s : Rounded) (a : ℕ) where
   level-upto b d i h x l u = i x l (omega arith)
 
 -- a test that fails, by one that holds
-not-above : (x y : Float) → (x ≤ᶠ y) ≡ true → (y <ᶠ x) ≡ false
+pub not-above : (x y : Float) → (x ≤ᶠ y) ≡ true → (y <ᶠ x) ≡ false
 not-above x y e = not-true (y <ᶠ x) (is-true (not (y <ᶠ x)) (not-lt-of-le x y (passed e)))
 
 -- beside no corner, a row that is past the sides has one coverage

@@ -53,3 +53,7 @@ pub record Ready (o : Frame) : Type 0 where
 -- one coverage for a whole part
 unfoldable pub levelInk : Color → ℕ → ℕ → ℕ → ℕ → ℕ
 levelInk c cv x y p = overC p c cv
+
+-- the coverage of a column by its own distance
+unfoldable pub columnCover : Rounded → Float → ℕ → ℕ
+columnCover s width x = bandCover (fabsOf (centreOf x -ᶠ s .cx) -ᶠ (s .hw -ᶠ s .r) -ᶠ s .r) width

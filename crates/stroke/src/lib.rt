@@ -1,6 +1,7 @@
 // The outline of a rounded rectangle, and of a circle.
 use color::Color;
 use color::blend_c;
+use color::blend_c_wide;
 use draw::Area;
 use draw::between;
 use draw::clipped;
@@ -15,19 +16,20 @@ use paints::both_positive;
 use paints::centre;
 use paints::corner_sd;
 ghost use mathlib.Core.Path.{_≡_};
-ghost use mathlib.Core.Bool.{false};
-ghost use Prim.Native.Nat.{_+_, _≤_};
+ghost use mathlib.Core.Bool.{true, false};
+ghost use Prim.Native.Nat.{_+_, _<_, _≤_};
 ghost use lib.Dec.{T};
 ghost use lib.Ieee.{Float};
 ghost use lib.ListN.{length};
-ghost use Rattle.mathf.specs.F32.{_+ᶠ_, f1};
+ghost use Rattle.mathf.specs.F32.{_+ᶠ_, _≤ᶠ_, f0, f1};
 ghost use Rattle.geom.specs.Int.{up};
 ghost use Rattle.draw.specs.Draw.{drawn};
+ghost use Rattle.draw.specs.Held.{Holds};
 ghost use Rattle.draw.specs.Areas.{drawnIn, area, clipTo, RowFits, AreaFits};
 ghost use Rattle.gfx.specs.Calls.{Called, shapeNumber};
 ghost use Rattle.paints.specs.Paints.{circleRect, roundedSd, centreOf};
 ghost use Rattle.stroke.specs.Stroke.{strokeOk, strokeReach, bandCover, fullRow, cornerRow, bandInk, outlineInk, strokeInk, ringOk};
-ghost use Rattle.stroke.specs.Rows.{LevelOf, widthOf, GapOf, RowGap, LevelIn, LevelPart, Ready, levelInk};
+ghost use Rattle.stroke.specs.Rows.{LevelOf, widthOf, GapOf, RowGap, LevelIn, LevelPart, Ready, levelInk, columnCover};
 
 // The reach: nothing where the rectangle has no width or no height, or the colour no alpha.
 pub fn stroke_reach(rect: Rect, c: Color) -> IRect
@@ -164,8 +166,61 @@ fn level_cover(s: Rounded, width: f32, l: Level, xc: f32) -> u32
     l.level
 }
 
-// A part of row y, by distance: what its columns share comes with it.
-fn band_span(px: &mut [u32], w: usize, y: usize, x0: usize, x1: usize, o: Frame, l: Level)
+// The coverage of column x by its own distance.
+fn column_cover(s: Rounded, width: f32, x: usize) -> u32
+    requires { ⌜ x < 2048 ⌝ }
+    ensures { λ n. ⌜ n ≡ columnCover s width x ⌝ }
+{
+    let qx = mathf::fabs(centre(x as u16) - s.cx) - (s.hw - s.r);
+    band_cover(qx - s.r, width)
+}
+
+// That of the columns x0 up to x1, which the rows beside the straight sides share: filled once a call.
+fn column_covers(s: Rounded, width: f32, x0: usize, x1: usize) -> [u32; 2048]
+    requires { ⌜ (x0 ≤ x1) × (x1 ≤ 2048) ⌝ }
+    ensures { λ r. ⌜ Holds (columnCover s width) x0 x1 r ⌝ }
+{
+    let mut cols = [0u32; 2048];
+    for x in x0..x1 {
+        cols[x] = column_cover(s, width, x);
+    }
+    cols
+}
+
+// The coverage of column x of a row that is past no side, from that of its column.
+fn side_cover(s: Rounded, l: Level, x: usize, col: u32) -> u32
+    requires { ⌜ x < 2048 ⌝ }
+    ensures { λ n. ⌜ ((width yc : Float) → LevelOf s width yc l → (l .qy ≤ᶠ f0) ≡ true → col ≡ columnCover s width x → n ≡ bandCover (roundedSd s (centreOf x) yc) width) ⌝ }
+{
+    let qx = mathf::fabs(centre(x as u16) - s.cx) - (s.hw - s.r);
+    if qx > l.qy { col } else { l.level }
+}
+
+// A part of such a row y.
+fn side_span(
+    px: &mut [u32],
+    cols: &[u32; 2048],
+    w: usize,
+    y: usize,
+    x0: usize,
+    x1: usize,
+    o: Frame,
+    l: Level,
+)
+    requires { ⌜ RowFits w y x0 x1 (length (now px)) ⌝ }
+    requires { ⌜ LevelOf (o .s) (o .width) (centreOf y) l × ((l .qy ≤ᶠ f0) ≡ true) × Holds (columnCover (o .s) (o .width)) x0 x1 (now cols) ⌝ }
+    ensures { λ _. ⌜ now (px .exit) ≡ drawnIn w (area x0 y x1 (y + 1)) (bandInk (o .s) (o .width) (o .c)) (now (px .entry)) ⌝ }
+{
+    let row = y * w;
+    for x in x0..x1 {
+        let cv = side_cover(o.s, l, x, cols[x]);
+        let i = row + x;
+        px[i] = blend_c_wide(px[i], o.c, cv);
+    }
+}
+
+// A part of any other row y, by distance.
+fn corner_span(px: &mut [u32], w: usize, y: usize, x0: usize, x1: usize, o: Frame, l: Level)
     requires { ⌜ RowFits w y x0 x1 (length (now px)) ⌝ }
     requires { ⌜ LevelOf (o .s) (o .width) (centreOf y) l ⌝ }
     ensures { λ _. ⌜ now (px .exit) ≡ drawnIn w (area x0 y x1 (y + 1)) (bandInk (o .s) (o .width) (o .c)) (now (px .entry)) ⌝ }
@@ -178,6 +233,28 @@ fn band_span(px: &mut [u32], w: usize, y: usize, x0: usize, x1: usize, o: Frame,
         }
         let i = row + x;
         px[i] = blend_c(px[i], o.c, cv);
+    }
+}
+
+// A part of row y: what its columns share comes with it.
+fn band_span(
+    px: &mut [u32],
+    cols: &[u32; 2048],
+    w: usize,
+    y: usize,
+    x0: usize,
+    x1: usize,
+    o: Frame,
+    l: Level,
+)
+    requires { ⌜ RowFits w y x0 x1 (length (now px)) ⌝ }
+    requires { ⌜ LevelOf (o .s) (o .width) (centreOf y) l × Holds (columnCover (o .s) (o .width)) x0 x1 (now cols) ⌝ }
+    ensures { λ _. ⌜ now (px .exit) ≡ drawnIn w (area x0 y x1 (y + 1)) (bandInk (o .s) (o .width) (o .c)) (now (px .entry)) ⌝ }
+{
+    if l.qy <= 0.0 {
+        side_span(px, cols, w, y, x0, x1, o, l);
+    } else {
+        corner_span(px, w, y, x0, x1, o, l);
     }
 }
 
@@ -202,17 +279,18 @@ fn full_span(px: &mut [u32], w: usize, y: usize, x0: usize, x1: usize, o: Frame,
     if l.qy >= 0.0 {
         let a = o.level.from;
         let b = o.level.upto;
-        band_span(px, w, y, x0, a, o, l);
+        corner_span(px, w, y, x0, a, o, l);
         level_span(px, w, y, a, b, o.c, l.level);
-        band_span(px, w, y, b, x1, o, l);
+        corner_span(px, w, y, b, x1, o, l);
     } else {
-        band_span(px, w, y, x0, x1, o, l);
+        corner_span(px, w, y, x0, x1, o, l);
     }
 }
 
 // The two sides of row y, with a gap between them.
 fn side_spans(
     px: &mut [u32],
+    cols: &[u32; 2048],
     w: usize,
     y: usize,
     x0: usize,
@@ -223,12 +301,13 @@ fn side_spans(
 )
     requires { ⌜ RowFits w y x0 x1 (length (now px)) ⌝ }
     requires { ⌜ LevelOf (o .s) (o .width) (centreOf y) l × RowGap (o .s) (o .width) (centreOf y) g × (fullRow (o .s) (o .width +ᶠ f1) (centreOf y) ≡ false) ⌝ }
+    requires { ⌜ Holds (columnCover (o .s) (o .width)) x0 x1 (now cols) ⌝ }
     ensures { λ _. ⌜ now (px .exit) ≡ drawnIn w (area x0 y x1 (y + 1)) (outlineInk (o .s) (o .width) (o .c)) (now (px .entry)) ⌝ }
 {
     let a = between(g.from, x0, x1);
     let b = between(g.upto, a, x1);
-    band_span(px, w, y, x0, a, o, l);
-    band_span(px, w, y, b, x1, o, l);
+    band_span(px, cols, w, y, x0, a, o, l);
+    band_span(px, cols, w, y, b, x1, o, l);
 }
 
 // The gap of a row.
@@ -244,9 +323,17 @@ fn row_gap(o: Frame, yc: f32) -> Columns
 }
 
 // Row y: whole, or its two sides.
-fn outline_row(px: &mut [u32], w: usize, y: usize, x0: usize, x1: usize, o: Frame)
+fn outline_row(
+    px: &mut [u32],
+    cols: &[u32; 2048],
+    w: usize,
+    y: usize,
+    x0: usize,
+    x1: usize,
+    o: Frame,
+)
     requires { ⌜ RowFits w y x0 x1 (length (now px)) ⌝ }
-    requires { ⌜ Ready o × LevelPart (o .s) x0 x1 (o .level) ⌝ }
+    requires { ⌜ Ready o × LevelPart (o .s) x0 x1 (o .level) × Holds (columnCover (o .s) (o .width)) x0 x1 (now cols) ⌝ }
     ensures { λ _. ⌜ now (px .exit) ≡ drawnIn w (area x0 y x1 (y + 1)) (outlineInk (o .s) (o .width) (o .c)) (now (px .entry)) ⌝ }
 {
     let yc = centre(y as u16);
@@ -254,14 +341,14 @@ fn outline_row(px: &mut [u32], w: usize, y: usize, x0: usize, x1: usize, o: Fram
     if full_row(o.s, o.width + 1.0, yc) {
         full_span(px, w, y, x0, x1, o, l);
     } else {
-        side_spans(px, w, y, x0, x1, o, l, row_gap(o, yc));
+        side_spans(px, cols, w, y, x0, x1, o, l, row_gap(o, yc));
     }
 }
 
 // The rows of an area.
-fn outline_box(px: &mut [u32], w: usize, b: Area, o: Frame)
+fn outline_box(px: &mut [u32], cols: &[u32; 2048], w: usize, b: Area, o: Frame)
     requires { ⌜ AreaFits w b (length (now px)) ⌝ }
-    requires { ⌜ Ready o × LevelPart (o .s) (b .x0) (b .x1) (o .level) ⌝ }
+    requires { ⌜ Ready o × LevelPart (o .s) (b .x0) (b .x1) (o .level) × Holds (columnCover (o .s) (o .width)) (b .x0) (b .x1) (now cols) ⌝ }
     ensures { λ _. ⌜ now (px .exit) ≡ drawnIn w b (outlineInk (o .s) (o .width) (o .c)) (now (px .entry)) ⌝ }
 {
     let x0 = b.x0;
@@ -269,7 +356,7 @@ fn outline_box(px: &mut [u32], w: usize, b: Area, o: Frame)
     let y0 = b.y0;
     let y1 = b.y1;
     for y in y0..y1 {
-        outline_row(px, w, y, x0, x1, o);
+        outline_row(px, cols, w, y, x0, x1, o);
     }
 }
 
@@ -289,7 +376,8 @@ fn outline_area(px: &mut [u32], w: usize, b: Area, s: Rounded, width: f32, c: Co
         straight,
         level,
     };
-    outline_box(px, w, b, o);
+    let cols = column_covers(s, width, b.x0, b.x1);
+    outline_box(px, &cols, w, b, o);
 }
 
 // The outline of a rectangle whose floats were tested by the caller.

@@ -8,17 +8,17 @@ use Rattle.stroke.proofs.Levels.{level-at}
 use Rattle.stroke.proofs.full_span.Statement.{statement}
 use Rattle.stroke.proofs.full_span.Tie as tie
 
-band-span-requires : tie.Need-band-span-requires
-band-span-requires c κs = (omega arith, c .before .before .before .before .pre .1 .0)
+corner-span-requires : tie.Need-corner-span-requires
+corner-span-requires c κs = (omega arith, c .before .before .before .before .pre .1 .0)
 
 level-span-requires : tie.Need-level-span-requires
 level-span-requires c κs = omega arith
 
-band-span-requires-2 : tie.Need-band-span-requires-2
-band-span-requires-2 c κs = (omega (arith, c .before .before .before .before .before .before .before .before .before .before .before .before .pre .0, c .before .before .before .before .before .before .before .before .before .before .before .before .pre .1 .1), c .before .before .before .before .before .before .before .before .before .before .before .before .pre .1 .0)
+corner-span-requires-2 : tie.Need-corner-span-requires-2
+corner-span-requires-2 c κs = (omega (arith, c .before .before .before .before .before .before .before .before .before .before .before .before .pre .0, c .before .before .before .before .before .before .before .before .before .before .before .before .pre .1 .1), c .before .before .before .before .before .before .before .before .before .before .before .before .pre .1 .0)
 
-band-span-requires-3 : tie.Need-band-span-requires-3
-band-span-requires-3 c κs = (c .before .before .before .before .pre .0, c .before .before .before .before .pre .1 .0)
+corner-span-requires-3 : tie.Need-corner-span-requires-3
+corner-span-requires-3 c κs = (c .before .before .before .before .pre .0, c .before .before .before .before .pre .1 .0)
 
 same-length : tie.Need-same-length
 same-length c = omega arith
@@ -32,7 +32,7 @@ returns c =
     let part = st .pre .1 .1 in
     let ink = bandInk (a .o .s) (a .o .width) (a .o .c) in
     row-three (a .w) ink ink (levelInk (a .o .c) (a .l .level)) ink (a .y) (a .x0) (a .o .level .from) (a .o .level .upto) (a .x1) _ _ _ _ (part .after) (part .order) (part .before)
-    (left .band-span .ensures) (mid .level-span .ensures) (c .before .before .band-span2 .ensures)
+    (left .corner-span .ensures) (mid .level-span .ensures) (c .before .before .corner-span2 .ensures)
     (λ x p h u. refl)
     (λ x p h u. level-at (a .o .s) (a .o .width) (a .o .c) (a .l) _ _ x (a .y) p (part .level) (st .pre .1 .0) (left .before .before .if1 .taken) h u)
     (λ x p h u. refl)
@@ -41,7 +41,7 @@ same-length-2 : tie.Need-same-length-2
 same-length-2 c = omega arith
 
 returns-2 : tie.Need-returns-2
-returns-2 c = c .before .before .band-span3 .ensures
+returns-2 c = c .before .before .corner-span3 .ensures
 
 pub full-span-spec : {M : Type 1} → statement M
-full-span-spec = tie.close (tie.spec band-span-requires level-span-requires band-span-requires-2 band-span-requires-3 same-length returns same-length-2 returns-2)
+full-span-spec = tie.close (tie.spec corner-span-requires level-span-requires corner-span-requires-2 corner-span-requires-3 same-length returns same-length-2 returns-2)

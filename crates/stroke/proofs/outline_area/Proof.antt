@@ -13,8 +13,11 @@ gap-requires-2 c κs = search needs
 level-part-requires : tie.Need-level-part-requires
 level-part-requires c κs = (c .before .before .before .pre .across, c .before .before .before .pre .wide)
 
+column-covers-requires : tie.Need-column-covers-requires
+column-covers-requires c κs = (c .before .before .before .before .pre .across, c .before .before .before .before .pre .wide)
+
 outline-box-requires : tie.Need-outline-box-requires
-outline-box-requires c κs = (c .before .before .before .before .before .pre, (record { bent = c .before .before .before .gap .ensures; straight = c .before .before .gap2 .ensures }, c .before .level-part .ensures))
+outline-box-requires c κs = (c .before .before .before .before .before .before .before .pre, (record { bent = c .before .before .before .before .before .gap .ensures; straight = c .before .before .before .before .gap2 .ensures }, c .before .before .before .level-part .ensures, c .before .before .column-covers .ensures))
 
 same-length : tie.Need-same-length
 same-length c = omega arith
@@ -23,4 +26,4 @@ returns : tie.Need-returns
 returns c = c .before .before .outline-box .ensures
 
 pub outline-area-spec : {M : Type 1} → statement M
-outline-area-spec = tie.close (tie.spec gap-requires gap-requires-2 level-part-requires outline-box-requires same-length returns)
+outline-area-spec = tie.close (tie.spec gap-requires gap-requires-2 level-part-requires column-covers-requires outline-box-requires same-length returns)

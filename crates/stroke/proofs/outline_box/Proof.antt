@@ -7,10 +7,10 @@ use Rattle.stroke.proofs.outline_box.Statement.{statement}
 use Rattle.stroke.proofs.outline_box.Tie as tie
 
 abbrev Inv-loop : tie.InvT-loop
-Inv-loop px₀ w o x0 x1 y0 y1 y₀ px y = InRows w (outlineInk (o .s) (o .width) (o .c)) x0 x1 y0 y1 px₀ px y
+Inv-loop px₀ cols w o x0 x1 y0 y1 y₀ px y = InRows w (outlineInk (o .s) (o .width) (o .c)) x0 x1 y0 y1 px₀ px y
 
 abbrev μ-loop : tie.MeasureT-loop
-μ-loop px₀ w o x0 x1 y0 y1 y₀ px y = y1 - y
+μ-loop px₀ cols w o x0 x1 y0 y1 y₀ px y = y1 - y
 
 loop-holds : tie.Need-loop-holds Inv-loop μ-loop
 loop-holds c =

@@ -30,7 +30,7 @@ side-spans-requires : tie.Need-side-spans-requires
 side-spans-requires c κs =
     let st = c .before .before .before .before .before .before .before .before in
     let yc = c .before .before .before .before .before .before in
-    (st .pre .0, (rw (← (yc .centre .ensures)) (c .before .before .before .before .before .level-of .ensures), rw (← (yc .centre .ensures)) (c .row-gap .ensures), rw (← (yc .centre .ensures)) (sym (c .before .before .before .full-row .ensures) ∙ c .before .before .if1 .left)))
+    (st .pre .0, ((rw (← (yc .centre .ensures)) (c .before .before .before .before .before .level-of .ensures), rw (← (yc .centre .ensures)) (c .row-gap .ensures), rw (← (yc .centre .ensures)) (sym (c .before .before .before .full-row .ensures) ∙ c .before .before .if1 .left)), st .pre .1 .2))
 
 same-length : tie.Need-same-length
 same-length c = omega arith
