@@ -143,6 +143,40 @@ static void calls(void) {
     check("the clip is popped", took(maldjupp_pop_clip(canvas)) && is_box(maldjupp_clip(canvas), 0, 0, 0, W, H));
 }
 
+static uint32_t at(int32_t x, int32_t y) { return maldjupp_get(canvas, px2, W * H, x, y).value; }
+
+/* The other brushes and shapes. */
+static void shapes(void) {
+    const struct maldjupp_color white = hex(0xFFFFFF), black = hex(0);
+    const struct maldjupp_rect all = {0, 0, W, H}, inner = {4, 4, 16, 8};
+    const struct maldjupp_pt left = {0, 0}, right = {W, 0}, middle = {12, 8};
+    const struct maldjupp_box half = {-5, -5, 12, 99};
+    check("a gradient from top to bottom",
+          took(maldjupp_fill_rect(canvas, px2, W * H, all, maldjupp_vgrad(0, H, black, white))) &&
+              at(0, 0) == at(23, 0) && at(0, 0) < at(0, 15));
+    check("a gradient from left to right",
+          took(maldjupp_fill_rect(canvas, px2, W * H, all, maldjupp_linear(left, right, black, white))) &&
+              at(0, 0) == at(0, 15) && at(0, 0) < at(23, 0));
+    check("a gradient from the middle",
+          took(maldjupp_fill_rect(canvas, px2, W * H, all, maldjupp_radial(middle, 12, black, white))) &&
+              at(20, 8) == at(3, 8) && at(12, 8) < at(20, 8));
+    check("a circle, cut to its left half",
+          took(maldjupp_clear(canvas, px2, W * H, white)) && took(maldjupp_push_clip_i(canvas, half)) &&
+              took(maldjupp_fill_circle(canvas, px2, W * H, 12, 8, 6, maldjupp_solid(black))) && took(maldjupp_pop_clip(canvas)) &&
+              at(11, 8) == 0 && at(12, 8) == 0xFFFFFF && at(6, 3) == 0xFFFFFF);
+    check("round corners", took(maldjupp_fill_rrect(canvas, px2, W * H, inner, 4, maldjupp_solid(black))) && at(4, 4) == 0xFFFFFF && at(5, 8) == 0);
+    check("an outline, inside its edge",
+          took(maldjupp_clear(canvas, px2, W * H, white)) && took(maldjupp_stroke_rrect(canvas, px2, W * H, inner, 0, 2, black)) &&
+              at(5, 8) == 0 && at(6, 8) == 0xFFFFFF && at(3, 8) == 0xFFFFFF);
+    check("a ring", took(maldjupp_clear(canvas, px2, W * H, white)) && took(maldjupp_ring(canvas, px2, W * H, 12, 8, 6, 2, black)) &&
+                        at(7, 8) == 0 && at(12, 8) == 0xFFFFFF && at(4, 8) == 0xFFFFFF);
+    check("a shadow without its middle",
+          took(maldjupp_shadow_rrect(canvas, px2, W * H, inner, 1, 2, black, true)) && at(12, 8) == 0xFFFFFF && at(4, 8) < 0xFFFFFF);
+    check("and with it", took(maldjupp_shadow_rrect(canvas, px2, W * H, inner, 1, 2, black, false)) && at(12, 8) < 0xFFFFFF);
+    check("another size: pixels of 0",
+          took(maldjupp_resize(canvas, H, W, px2, W * H)) && is_box(maldjupp_bounds(canvas), 0, 0, 0, H, W) && at(12, 8) == 0);
+}
+
 int main(void) {
     static uint8_t old[MOST], new[MOST];
     static uint32_t px[W * H], fresh[W * H], before[W * H];
@@ -179,6 +213,7 @@ int main(void) {
     check("its pixels are those of the sheet", memcmp(px2, fresh, sizeof fresh) == 0);
     check("49 words of scratch: refused 9", !ticket_calls(brass, 8, scratch, 49) && memcmp(px2, fresh, sizeof fresh) != 0);
     calls();
+    shapes();
 
     printf("example: %s\n", failed ? "FAILED" : "every answer is as it should be");
     return failed != 0;
