@@ -1,4 +1,4 @@
-/* Paints a small ticket, patches it, and checks every answer.
+/* Paints a small ticket, patches it, draws it call by call, and checks every answer.
  *
  *   cc -std=c11 -Wall -Wextra -Werror -I bindings/c bindings/c/example.c -L target/staticlib -lmaldjupp -o example */
 #include "maldjupp.h"
@@ -69,6 +69,31 @@ static size_t ticket(uint32_t grade, float bar, uint8_t out[MOST]) {
     return bytes_of(&s, W, H, 0xDEDBD2, out);
 }
 
+/* The canvas of the calls below, and its pixels. */
+static struct maldjupp_canvas canvas;
+static uint32_t px2[W * H];
+
+/* Goes on with the state that a call returned, and says whether it was accepted. */
+static int took(struct maldjupp_done d) {
+    canvas = d.canvas;
+    return d.number == MALDJUPP_ACCEPTED;
+}
+
+static struct maldjupp_color hex(uint32_t rgb) { return maldjupp_rgb((uint8_t)(rgb >> 16), (uint8_t)(rgb >> 8), (uint8_t)rgb); }
+
+static int fill_call(float x, float y, float w, float h, uint32_t rgb) {
+    struct maldjupp_rect rect = {x, y, w, h};
+    return took(maldjupp_fill_rect(canvas, px2, W * H, rect, maldjupp_solid(hex(rgb))));
+}
+
+/* The ticket of `ticket`, call by call. */
+static int ticket_calls(uint32_t grade, float bar, float *scratch, size_t words) {
+    const float corner[] = {17, 3, 21, 3, 17, 7};
+    return took(maldjupp_new(W, H, px2, W * H)) && took(maldjupp_clear(canvas, px2, W * H, hex(0xDEDBD2))) &&
+           fill_call(1, 1, 22, 14, 0xFDFCF8) && fill_call(3, 3, 5, 5, grade) && fill_call(3, 11, bar, 2, 0x207A4E) &&
+           took(maldjupp_fill_poly(canvas, px2, W * H, corner, 6, maldjupp_solid(hex(0x3A6292)), scratch, words));
+}
+
 static int failed;
 
 static void check(const char *what, int sound) {
@@ -78,6 +103,78 @@ static void check(const char *what, int sound) {
 
 static int is(struct maldjupp_reply r, uint32_t number, uint32_t item, int32_t x0, int32_t y0, int32_t x1, int32_t y1) {
     return r.number == number && r.item == item && r.x0 == x0 && r.y0 == y0 && r.x1 == x1 && r.y1 == y1;
+}
+
+static int is_box(struct maldjupp_boxed b, uint32_t number, int32_t x0, int32_t y0, int32_t x1, int32_t y1) {
+    return b.number == number && b.area.x0 == x0 && b.area.y0 == y0 && b.area.x1 == x1 && b.area.y1 == y1;
+}
+
+/* Whether a call was refused by a number and gave the canvas back. */
+static int refused(struct maldjupp_done d, uint32_t number) { return d.number == number && memcmp(&d.canvas, &canvas, sizeof canvas) == 0; }
+
+/* Clips, shapes and refusals on the canvas of the ticket. */
+static void calls(void) {
+    static uint32_t lines[W * H], before[W * H];
+    const struct maldjupp_rect rect = {2.5f, 2, 9, 9};
+    const struct maldjupp_pt a = {2, 3}, b = {20, 5}, c = {8, 14};
+    const float way[] = {2, 3, 20, 5, 8, 14};
+    const struct maldjupp_color red = maldjupp_rgba(255, 0, 0, 128);
+    check("the whole canvas is bounds and clip", is_box(maldjupp_bounds(canvas), 0, 0, 0, W, H) && is_box(maldjupp_clip(canvas), 0, 0, 0, W, H));
+    check("a clip is pushed", took(maldjupp_push_clip(canvas, rect)) && is_box(maldjupp_clip(canvas), 0, 2, 2, 12, 11));
+    memcpy(before, px2, sizeof px2), memcpy(lines, px2, sizeof px2);
+    check("a polyline under it is its lines",
+          took(maldjupp_polyline(canvas, px2, W * H, way, 6, 2, red)) && took(maldjupp_line(canvas, lines, W * H, a, b, 2, red)) &&
+              took(maldjupp_line(canvas, lines, W * H, b, c, 2, red)) && memcmp(px2, lines, sizeof px2) == 0 && memcmp(px2, before, sizeof px2) != 0);
+    check("no pixel outside it is altered", px2[3 * W + 12] == before[3 * W + 12] && px2[11 * W + 8] == before[11 * W + 8]);
+    check("a pixel is read, the nearest inside",
+          maldjupp_get(canvas, px2, W * H, 4, 3).value == px2[3 * W + 4] && maldjupp_get(canvas, px2, W * H, 99, -9).value == px2[W - 1]);
+
+    struct maldjupp_brush brush = maldjupp_linear(a, b, red, red);
+    memcpy(before, px2, sizeof px2), brush.kind = 4;
+    check("a brush of kind 4: refused 5", refused(maldjupp_fill_rect(canvas, px2, W * H, rect, brush), MALDJUPP_ZERO_BYTE));
+    check("a radius of 8,193: refused 6", refused(maldjupp_ring(canvas, px2, W * H, 5, 5, 8193, 1, red), MALDJUPP_FLOAT));
+    check("an odd count of coordinates: refused 13", refused(maldjupp_polyline(canvas, px2, W * H, way, 5, 2, red), MALDJUPP_POINTS));
+    check("a pixel too few: refused 8", refused(maldjupp_clear(canvas, px2, W * H - 1, red), MALDJUPP_PIXELS));
+    check("a side over 2,048: refused 2", refused(maldjupp_resize(canvas, 2049, H, px2, W * H), MALDJUPP_HEADER));
+    canvas.saved[9].y1 = 1;
+    check("an unused place filled: refused 12", refused(maldjupp_stroke_rrect(canvas, px2, W * H, rect, 1, 1, red), MALDJUPP_STATE));
+    check("refused, nothing is altered", memcmp(px2, before, sizeof px2) == 0);
+    canvas.saved[9].y1 = 0;
+    check("the clip is popped", took(maldjupp_pop_clip(canvas)) && is_box(maldjupp_clip(canvas), 0, 0, 0, W, H));
+}
+
+static uint32_t at(int32_t x, int32_t y) { return maldjupp_get(canvas, px2, W * H, x, y).value; }
+
+/* The other brushes and shapes. */
+static void shapes(void) {
+    const struct maldjupp_color white = hex(0xFFFFFF), black = hex(0);
+    const struct maldjupp_rect all = {0, 0, W, H}, inner = {4, 4, 16, 8};
+    const struct maldjupp_pt left = {0, 0}, right = {W, 0}, middle = {12, 8};
+    const struct maldjupp_box half = {-5, -5, 12, 99};
+    check("a gradient from top to bottom",
+          took(maldjupp_fill_rect(canvas, px2, W * H, all, maldjupp_vgrad(0, H, black, white))) &&
+              at(0, 0) == at(23, 0) && at(0, 0) < at(0, 15));
+    check("a gradient from left to right",
+          took(maldjupp_fill_rect(canvas, px2, W * H, all, maldjupp_linear(left, right, black, white))) &&
+              at(0, 0) == at(0, 15) && at(0, 0) < at(23, 0));
+    check("a gradient from the middle",
+          took(maldjupp_fill_rect(canvas, px2, W * H, all, maldjupp_radial(middle, 12, black, white))) &&
+              at(20, 8) == at(3, 8) && at(12, 8) < at(20, 8));
+    check("a circle, cut to its left half",
+          took(maldjupp_clear(canvas, px2, W * H, white)) && took(maldjupp_push_clip_i(canvas, half)) &&
+              took(maldjupp_fill_circle(canvas, px2, W * H, 12, 8, 6, maldjupp_solid(black))) && took(maldjupp_pop_clip(canvas)) &&
+              at(11, 8) == 0 && at(12, 8) == 0xFFFFFF && at(6, 3) == 0xFFFFFF);
+    check("round corners", took(maldjupp_fill_rrect(canvas, px2, W * H, inner, 4, maldjupp_solid(black))) && at(4, 4) == 0xFFFFFF && at(5, 8) == 0);
+    check("an outline, inside its edge",
+          took(maldjupp_clear(canvas, px2, W * H, white)) && took(maldjupp_stroke_rrect(canvas, px2, W * H, inner, 0, 2, black)) &&
+              at(5, 8) == 0 && at(6, 8) == 0xFFFFFF && at(3, 8) == 0xFFFFFF);
+    check("a ring", took(maldjupp_clear(canvas, px2, W * H, white)) && took(maldjupp_ring(canvas, px2, W * H, 12, 8, 6, 2, black)) &&
+                        at(7, 8) == 0 && at(12, 8) == 0xFFFFFF && at(4, 8) == 0xFFFFFF);
+    check("a shadow without its middle",
+          took(maldjupp_shadow_rrect(canvas, px2, W * H, inner, 1, 2, black, true)) && at(12, 8) == 0xFFFFFF && at(4, 8) < 0xFFFFFF);
+    check("and with it", took(maldjupp_shadow_rrect(canvas, px2, W * H, inner, 1, 2, black, false)) && at(12, 8) < 0xFFFFFF);
+    check("another size: pixels of 0",
+          took(maldjupp_resize(canvas, H, W, px2, W * H)) && is_box(maldjupp_bounds(canvas), 0, 0, 0, H, W) && at(12, 8) == 0);
 }
 
 int main(void) {
@@ -110,6 +207,13 @@ int main(void) {
     check("49 words of scratch: refused 9", is(maldjupp_patch(old, n, new, m, px, W * H, scratch, 49), MALDJUPP_SCRATCH, 0, 0, 0, 0, 0));
     check("refused, nothing is altered", memcmp(px, before, sizeof px) == 0);
     check("50 words are enough", is(maldjupp_patch(old, n, new, m, px, W * H, scratch, 50), MALDJUPP_ACCEPTED, 0, 3, 11, 15, 13));
+
+    maldjupp_paint(new, m, fresh, W * H, scratch, WORDS);
+    check("the ticket is drawn call by call", ticket_calls(brass, 8, scratch, 50));
+    check("its pixels are those of the sheet", memcmp(px2, fresh, sizeof fresh) == 0);
+    check("49 words of scratch: refused 9", !ticket_calls(brass, 8, scratch, 49) && memcmp(px2, fresh, sizeof fresh) != 0);
+    calls();
+    shapes();
 
     printf("example: %s\n", failed ? "FAILED" : "every answer is as it should be");
     return failed != 0;

@@ -1,11 +1,13 @@
-/* Maldjupp: a sheet of shapes is painted and patched by the proved static library libmaldjupp.a, which `rt staticlib maldjupp` writes.
+/* Maldjupp: a sheet of shapes is painted and patched, or a canvas drawn on call by call, by the proved static library libmaldjupp.a, which
+ * `rt staticlib maldjupp` writes.
  *
- * The sheet, its pixels and its scratch are lent for the call. Only what is lent is touched, whatever the bytes are, and nothing is kept.
- * Lent pieces must not overlap. A pointer whose length is 0 must not be null: give the address of anything.
+ * Sheet, pixels, points and scratch are lent for the call. Only what is lent is touched, whatever the bytes and numbers are, and nothing
+ * is kept. Lent pieces must not overlap. A pointer whose length is 0 must not be null: give the address of anything.
  * Pixels stand row by row, each 0x00RRGGBB. */
 #ifndef MALDJUPP_H
 #define MALDJUPP_H
 
+#include <stdbool.h>
 #include <stddef.h>
 #include <stdint.h>
 
@@ -13,20 +15,21 @@
 extern "C" {
 #endif
 
-/* Why a sheet or a patch is refused. */
+/* Why a call is refused. */
 enum maldjupp_number {
     MALDJUPP_ACCEPTED = 0,
     MALDJUPP_SHEET_LENGTH = 1, /* the sheet is under 12 or over 60,000 bytes */
     MALDJUPP_HEADER = 2,       /* a side outside 1 to 2,048, over 1,024 items, or a zero byte of the header filled */
     MALDJUPP_PAIRS = 3,        /* the pairs of offset and length do not run on to the end of the sheet */
     MALDJUPP_KIND = 4,         /* an item's kind is unknown, or its length is not its kind's */
-    MALDJUPP_ZERO_BYTE = 5,    /* a zero byte of an item filled, a paint kind over 3 or skip_inside over 1 */
-    MALDJUPP_FLOAT = 6,        /* a float of an item is not finite or past 8,192 either way */
+    MALDJUPP_ZERO_BYTE = 5,    /* a zero byte of an item filled, a paint or brush kind over 3 or skip_inside over 1 */
+    MALDJUPP_FLOAT = 6,        /* a float is not finite or past 8,192 either way */
     MALDJUPP_CLIPS = 7,        /* a clip is pushed while 16 are saved */
     MALDJUPP_PIXELS = 8,       /* the pixels lent are not width times height */
-    MALDJUPP_SCRATCH = 9,      /* the scratch lent is less than the sheet needs */
+    MALDJUPP_SCRATCH = 9,      /* the scratch lent is less than is needed */
     MALDJUPP_DIFFERENCE = 10,  /* the sheets differ in more than one shape, or in something other than a shape */
-    MALDJUPP_POINTS = 13       /* a polygon has over 64 points */
+    MALDJUPP_STATE = 12,       /* a state that a canvas cannot be in */
+    MALDJUPP_POINTS = 13       /* over 64 points, or in a canvas call an odd count of coordinates */
 };
 
 /* An answer. The box is columns x0 up to but without x1, rows y0 up to but without y1. Refused, it is four zeros. */
@@ -47,6 +50,149 @@ struct maldjupp_reply maldjupp_paint(const uint8_t *sheet, size_t bytes, uint32_
  * one of the next patch. Refused, nothing is altered, and the old sheet stays the old one. */
 struct maldjupp_reply maldjupp_patch(const uint8_t *old_sheet, size_t old_bytes, const uint8_t *new_sheet, size_t new_bytes,
                                      uint32_t *px, size_t pixels, float *scratch, size_t words);
+
+/* ---- The canvas, call by call
+ *
+ * The state of a canvas is a struct, which each call takes and returns by value, beside a number. Refused, the state that was given comes
+ * back and no pixel and no scratch word is altered, so that a caller may always go on with the returned state:
+ *
+ *     struct maldjupp_canvas c = maldjupp_new(W, H, px, W * H).canvas;
+ *     struct maldjupp_done d = maldjupp_fill_circle(c, px, W * H, 30, 40, 16, maldjupp_solid(maldjupp_rgb(184, 115, 51)));
+ *     if (d.number != MALDJUPP_ACCEPTED) ..
+ *     c = d.canvas;
+ *
+ * `pixels` must be width times height. Every float is finite and -8,192 to 8,192. Points are coordinates x y x y, of at most 64 points,
+ * and `count` is the count of coordinates. The tests stand in the order 12, 2, 8, 13, 5, 6, 7, 9. */
+
+struct maldjupp_pt {
+    float x, y;
+};
+
+struct maldjupp_rect {
+    float x, y, w, h;
+};
+
+/* Columns x0 up to but without x1, rows y0 up to but without y1. */
+struct maldjupp_box {
+    int32_t x0, y0, x1, y1;
+};
+
+/* Alpha 0 paints nothing, 255 covers. */
+struct maldjupp_color {
+    uint8_t r, g, b, a;
+};
+
+/* What a fill or a polygon is painted with, as in a sheet. Kind 0: c0 alone. Kind 1: from c0 in row v0 to c1 in row v1. Kind 2: from c0 at
+ * (v0, v1) to c1 at (v2, v3). Kind 3: from c0 at (v0, v1) to c1 at the distance v2. What a kind does not use is not read. */
+struct maldjupp_brush {
+    uint32_t kind;
+    struct maldjupp_color c0, c1;
+    float v0, v1, v2, v3;
+};
+
+/* Sides of 1 to 2,048, the clip, and the saved clips, of which `depth` are in use and the others four zeros. Every clip is empty or inside
+ * the canvas. Any other state is refused by 12. */
+struct maldjupp_canvas {
+    int32_t w, h;
+    struct maldjupp_box clip, saved[16];
+    size_t depth;
+};
+
+/* What a call returns: a number, and the state, a box or a pixel. Box and pixel are zeros beside a refusal. */
+struct maldjupp_done {
+    uint32_t number;
+    struct maldjupp_canvas canvas;
+};
+
+struct maldjupp_boxed {
+    uint32_t number;
+    struct maldjupp_box area;
+};
+
+struct maldjupp_pixel {
+    uint32_t number, value;
+};
+
+/* Colours and brushes. */
+static inline struct maldjupp_color maldjupp_rgba(uint8_t r, uint8_t g, uint8_t b, uint8_t a) {
+    struct maldjupp_color c = {r, g, b, a};
+    return c;
+}
+
+static inline struct maldjupp_color maldjupp_rgb(uint8_t r, uint8_t g, uint8_t b) { return maldjupp_rgba(r, g, b, 255); }
+
+static inline struct maldjupp_brush maldjupp_solid(struct maldjupp_color c) {
+    struct maldjupp_brush brush = {0, c, c, 0, 0, 0, 0};
+    return brush;
+}
+
+static inline struct maldjupp_brush maldjupp_vgrad(float y0, float y1, struct maldjupp_color c0, struct maldjupp_color c1) {
+    struct maldjupp_brush brush = {1, c0, c1, y0, y1, 0, 0};
+    return brush;
+}
+
+static inline struct maldjupp_brush maldjupp_linear(struct maldjupp_pt p0, struct maldjupp_pt p1, struct maldjupp_color c0,
+                                                    struct maldjupp_color c1) {
+    struct maldjupp_brush brush = {2, c0, c1, p0.x, p0.y, p1.x, p1.y};
+    return brush;
+}
+
+static inline struct maldjupp_brush maldjupp_radial(struct maldjupp_pt c, float r, struct maldjupp_color c0, struct maldjupp_color c1) {
+    struct maldjupp_brush brush = {3, c0, c1, c.x, c.y, r, 0};
+    return brush;
+}
+
+/* A canvas with all of it as clip and nothing saved; its pixels are then 0. A side below 1 is raised to 1, and `pixels` must be the raised
+ * sides' product. Refused, the state is zeros. */
+struct maldjupp_done maldjupp_new(int32_t w, int32_t h, uint32_t *px, size_t pixels);
+
+/* Another size, as if new; the same size alters nothing. `px` is for the new size. */
+struct maldjupp_done maldjupp_resize(struct maldjupp_canvas canvas, int32_t w, int32_t h, uint32_t *px, size_t pixels);
+
+/* The whole canvas, and the clip. */
+struct maldjupp_boxed maldjupp_bounds(struct maldjupp_canvas canvas);
+struct maldjupp_boxed maldjupp_clip(struct maldjupp_canvas canvas);
+
+/* Saves the clip and cuts it to the pixels around a rectangle, or to any box; refused by 7 while 16 are saved. */
+struct maldjupp_done maldjupp_push_clip(struct maldjupp_canvas canvas, struct maldjupp_rect rect);
+struct maldjupp_done maldjupp_push_clip_i(struct maldjupp_canvas canvas, struct maldjupp_box box);
+
+/* Takes back the clip saved last; does nothing where none is saved. */
+struct maldjupp_done maldjupp_pop_clip(struct maldjupp_canvas canvas);
+
+/* Sets every pixel to a colour, whatever the clip. */
+struct maldjupp_done maldjupp_clear(struct maldjupp_canvas canvas, uint32_t *px, size_t pixels, struct maldjupp_color color);
+
+/* The pixel in column x and row y, each brought to the nearest inside. */
+struct maldjupp_pixel maldjupp_get(struct maldjupp_canvas canvas, const uint32_t *px, size_t pixels, int32_t x, int32_t y);
+
+/* A rectangle with round corners, a rectangle, and a circle, filled. */
+struct maldjupp_done maldjupp_fill_rrect(struct maldjupp_canvas canvas, uint32_t *px, size_t pixels, struct maldjupp_rect rect, float r,
+                                         struct maldjupp_brush brush);
+struct maldjupp_done maldjupp_fill_rect(struct maldjupp_canvas canvas, uint32_t *px, size_t pixels, struct maldjupp_rect rect,
+                                        struct maldjupp_brush brush);
+struct maldjupp_done maldjupp_fill_circle(struct maldjupp_canvas canvas, uint32_t *px, size_t pixels, float cx, float cy, float r,
+                                          struct maldjupp_brush brush);
+
+/* The outline of a rectangle with round corners, inside its edge, and of a circle. */
+struct maldjupp_done maldjupp_stroke_rrect(struct maldjupp_canvas canvas, uint32_t *px, size_t pixels, struct maldjupp_rect rect, float r,
+                                           float width, struct maldjupp_color color);
+struct maldjupp_done maldjupp_ring(struct maldjupp_canvas canvas, uint32_t *px, size_t pixels, float cx, float cy, float r, float width,
+                                   struct maldjupp_color color);
+
+/* A line with round ends, and lines from point to point, one after the other. */
+struct maldjupp_done maldjupp_line(struct maldjupp_canvas canvas, uint32_t *px, size_t pixels, struct maldjupp_pt a, struct maldjupp_pt b,
+                                   float width, struct maldjupp_color color);
+struct maldjupp_done maldjupp_polyline(struct maldjupp_canvas canvas, uint32_t *px, size_t pixels, const float *points, size_t count,
+                                       float width, struct maldjupp_color color);
+
+/* A polygon, filled. Its scratch is that of a polygon in a sheet (see maldjupp_paint); so many words are left 0. */
+struct maldjupp_done maldjupp_fill_poly(struct maldjupp_canvas canvas, uint32_t *px, size_t pixels, const float *points, size_t count,
+                                        struct maldjupp_brush brush, float *scratch, size_t words);
+
+/* The soft shadow of a rectangle with round corners; with `skip_inside` its middle, where it is darkest, is left out. */
+struct maldjupp_done maldjupp_shadow_rrect(struct maldjupp_canvas canvas, uint32_t *px, size_t pixels, struct maldjupp_rect rect, float r,
+                                           float blur, struct maldjupp_color color, bool skip_inside);
 
 #ifdef __cplusplus
 }

@@ -21,10 +21,27 @@
 //! # Ok::<(), Box<dyn std::error::Error>>(())
 //! ```
 //!
+//! A program that draws call by call has a [`Canvas`] with the same calls. Its pixels are those of the sheet:
+//!
+//! ```
+//! use maldjupp::{Canvas, Color, Rect, SheetBuilder, Ticket};
+//!
+//! let (area, copper) = (Rect::new(1.5, 0.5, 4.0, 2.0), Color::rgb(184, 115, 51));
+//! let mut canvas = Canvas::new(8, 3)?;
+//! canvas.clear(Color::WHITE)?;
+//! canvas.fill_rrect(area, 1.0, copper)?;
+//!
+//! let mut b = SheetBuilder::new(8, 3, Color::WHITE)?;
+//! b.fill_rrect(area, 1.0, copper)?;
+//! assert_eq!(canvas.px(), Ticket::paint(&b)?.px());
+//! # Ok::<(), Box<dyn std::error::Error>>(())
+//! ```
+//!
 //! The library is found by the build script: in the folder that `MALDJUPP_LIB_DIR` names, else where `rt staticlib maldjupp` writes it.
 #![deny(unsafe_code)]
 #![warn(missing_docs)]
 
+mod canvas;
 #[allow(unsafe_code)]
 mod raw;
 mod refusal;
@@ -32,6 +49,7 @@ mod sheet;
 mod ticket;
 mod values;
 
+pub use canvas::Canvas;
 pub use refusal::{Error, Refusal, Refused, SheetError};
 pub use sheet::{Shape, SheetBuilder};
 pub use ticket::{to_ppm, Ticket};

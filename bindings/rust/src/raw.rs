@@ -1,15 +1,65 @@
-//! The two functions of the static library, on slices. The only unsafe code is here.
+//! The functions of the static library, on slices. The only unsafe code is here.
+use crate::{Color, IRect, Paint, Pt, Rect};
 
-/// An answer as the library lays it out.
+/// A number, the item that it names, and a box.
 #[repr(C)]
-#[derive(Clone, Copy, Debug, PartialEq, Eq)]
 pub struct Reply {
     pub number: u32,
     pub item: u32,
-    pub x0: i32,
-    pub y0: i32,
-    pub x1: i32,
-    pub y1: i32,
+    pub area: IRect,
+}
+
+/// The state of a canvas: its sides, its clip, and the saved clips, of which `depth` are in use.
+#[repr(C)]
+#[derive(Clone, Copy, Debug, PartialEq, Eq)]
+pub struct State {
+    pub w: i32,
+    pub h: i32,
+    pub clip: IRect,
+    pub saved: [IRect; 16],
+    pub depth: usize,
+}
+
+/// A number and the state after a call.
+#[repr(C)]
+pub struct Done {
+    pub number: u32,
+    pub state: State,
+}
+
+/// A number and a box.
+#[repr(C)]
+pub struct Boxed {
+    pub number: u32,
+    pub area: IRect,
+}
+
+/// A number and a pixel.
+#[repr(C)]
+pub struct Pixel {
+    pub number: u32,
+    pub value: u32,
+}
+
+/// A paint as a kind, two colours and four floats.
+#[repr(C)]
+#[derive(Clone, Copy)]
+pub struct Brush {
+    kind: u32,
+    colors: [Color; 2],
+    floats: [f32; 4],
+}
+
+impl From<Paint> for Brush {
+    fn from(paint: Paint) -> Brush {
+        let brush = |kind, c0, c1, floats| Brush { kind, colors: [c0, c1], floats };
+        match paint {
+            Paint::Solid(c) => brush(0, c, c, [0.0; 4]),
+            Paint::VGrad { y0, y1, c0, c1 } => brush(1, c0, c1, [y0, y1, 0.0, 0.0]),
+            Paint::Linear { p0, p1, c0, c1 } => brush(2, c0, c1, [p0.x, p0.y, p1.x, p1.y]),
+            Paint::Radial { c, r, c0, c1 } => brush(3, c0, c1, [c.x, c.y, r, 0.0]),
+        }
+    }
 }
 
 extern "C" {
@@ -24,17 +74,62 @@ extern "C" {
         scratch: *mut f32,
         words: usize,
     ) -> Reply;
+    fn maldjupp_new(w: i32, h: i32, px: *mut u32, pixels: usize) -> Done;
+    fn maldjupp_resize(canvas: State, w: i32, h: i32, px: *mut u32, pixels: usize) -> Done;
+    fn maldjupp_bounds(canvas: State) -> Boxed;
+    fn maldjupp_clip(canvas: State) -> Boxed;
+    fn maldjupp_push_clip(canvas: State, rect: Rect) -> Done;
+    fn maldjupp_push_clip_i(canvas: State, area: IRect) -> Done;
+    fn maldjupp_pop_clip(canvas: State) -> Done;
+    fn maldjupp_clear(canvas: State, px: *mut u32, pixels: usize, color: Color) -> Done;
+    fn maldjupp_get(canvas: State, px: *const u32, pixels: usize, x: i32, y: i32) -> Pixel;
+    fn maldjupp_fill_rrect(canvas: State, px: *mut u32, pixels: usize, rect: Rect, r: f32, brush: Brush) -> Done;
+    fn maldjupp_fill_rect(canvas: State, px: *mut u32, pixels: usize, rect: Rect, brush: Brush) -> Done;
+    fn maldjupp_fill_circle(canvas: State, px: *mut u32, pixels: usize, cx: f32, cy: f32, r: f32, brush: Brush) -> Done;
+    fn maldjupp_stroke_rrect(canvas: State, px: *mut u32, pixels: usize, rect: Rect, r: f32, width: f32, color: Color) -> Done;
+    fn maldjupp_ring(canvas: State, px: *mut u32, pixels: usize, cx: f32, cy: f32, r: f32, width: f32, color: Color) -> Done;
+    fn maldjupp_line(canvas: State, px: *mut u32, pixels: usize, a: Pt, b: Pt, width: f32, color: Color) -> Done;
+    fn maldjupp_polyline(
+        canvas: State,
+        px: *mut u32,
+        pixels: usize,
+        points: *const f32,
+        coordinates: usize,
+        width: f32,
+        color: Color,
+    ) -> Done;
+    fn maldjupp_fill_poly(
+        canvas: State,
+        px: *mut u32,
+        pixels: usize,
+        points: *const f32,
+        coordinates: usize,
+        brush: Brush,
+        scratch: *mut f32,
+        words: usize,
+    ) -> Done;
+    fn maldjupp_shadow_rrect(
+        canvas: State,
+        px: *mut u32,
+        pixels: usize,
+        rect: Rect,
+        r: f32,
+        blur: f32,
+        color: Color,
+        skip_inside: bool,
+    ) -> Done;
 }
+
+// SAFETY, of every call below: each pointer comes with the length of its slice, and a point is two floats, x and y, without a gap. The
+// library reads and writes only what is lent, for any bytes, numbers and state, and keeps nothing.
 
 /// Paints a sheet on px.
 pub fn paint(sheet: &[u8], px: &mut [u32], scratch: &mut [f32]) -> Reply {
-    // SAFETY: each pointer comes with the length of its slice; the library reads and writes only what is lent, for any bytes.
     unsafe { maldjupp_paint(sheet.as_ptr(), sheet.len(), px.as_mut_ptr(), px.len(), scratch.as_mut_ptr(), scratch.len()) }
 }
 
 /// Patches px, which shows the old sheet, to the new one.
 pub fn patch(old: &[u8], new: &[u8], px: &mut [u32], scratch: &mut [f32]) -> Reply {
-    // SAFETY: as above.
     unsafe {
         maldjupp_patch(
             old.as_ptr(),
@@ -46,5 +141,162 @@ pub fn patch(old: &[u8], new: &[u8], px: &mut [u32], scratch: &mut [f32]) -> Rep
             scratch.as_mut_ptr(),
             scratch.len(),
         )
+    }
+}
+
+/// The calls of a canvas, each on its state and on px.
+impl State {
+    pub fn blank(w: i32, h: i32, px: &mut [u32]) -> Done {
+        unsafe { maldjupp_new(w, h, px.as_mut_ptr(), px.len()) }
+    }
+
+    pub fn resize(self, w: i32, h: i32, px: &mut [u32]) -> Done {
+        unsafe { maldjupp_resize(self, w, h, px.as_mut_ptr(), px.len()) }
+    }
+
+    pub fn bounds(self) -> Boxed {
+        unsafe { maldjupp_bounds(self) }
+    }
+
+    pub fn clip(self) -> Boxed {
+        unsafe { maldjupp_clip(self) }
+    }
+
+    pub fn push_clip(self, rect: Rect) -> Done {
+        unsafe { maldjupp_push_clip(self, rect) }
+    }
+
+    pub fn push_clip_i(self, area: IRect) -> Done {
+        unsafe { maldjupp_push_clip_i(self, area) }
+    }
+
+    pub fn pop_clip(self) -> Done {
+        unsafe { maldjupp_pop_clip(self) }
+    }
+
+    pub fn clear(self, px: &mut [u32], color: Color) -> Done {
+        unsafe { maldjupp_clear(self, px.as_mut_ptr(), px.len(), color) }
+    }
+
+    pub fn get(self, px: &[u32], x: i32, y: i32) -> Pixel {
+        unsafe { maldjupp_get(self, px.as_ptr(), px.len(), x, y) }
+    }
+
+    pub fn fill_rrect(self, px: &mut [u32], rect: Rect, r: f32, brush: Brush) -> Done {
+        unsafe { maldjupp_fill_rrect(self, px.as_mut_ptr(), px.len(), rect, r, brush) }
+    }
+
+    pub fn fill_rect(self, px: &mut [u32], rect: Rect, brush: Brush) -> Done {
+        unsafe { maldjupp_fill_rect(self, px.as_mut_ptr(), px.len(), rect, brush) }
+    }
+
+    pub fn fill_circle(self, px: &mut [u32], cx: f32, cy: f32, r: f32, brush: Brush) -> Done {
+        unsafe { maldjupp_fill_circle(self, px.as_mut_ptr(), px.len(), cx, cy, r, brush) }
+    }
+
+    pub fn stroke_rrect(self, px: &mut [u32], rect: Rect, r: f32, width: f32, color: Color) -> Done {
+        unsafe { maldjupp_stroke_rrect(self, px.as_mut_ptr(), px.len(), rect, r, width, color) }
+    }
+
+    pub fn ring(self, px: &mut [u32], cx: f32, cy: f32, r: f32, width: f32, color: Color) -> Done {
+        unsafe { maldjupp_ring(self, px.as_mut_ptr(), px.len(), cx, cy, r, width, color) }
+    }
+
+    pub fn line(self, px: &mut [u32], a: Pt, b: Pt, width: f32, color: Color) -> Done {
+        unsafe { maldjupp_line(self, px.as_mut_ptr(), px.len(), a, b, width, color) }
+    }
+
+    pub fn polyline(self, px: &mut [u32], points: &[Pt], width: f32, color: Color) -> Done {
+        unsafe { maldjupp_polyline(self, px.as_mut_ptr(), px.len(), points.as_ptr().cast(), 2 * points.len(), width, color) }
+    }
+
+    pub fn fill_poly(self, px: &mut [u32], points: &[Pt], brush: Brush, scratch: &mut [f32]) -> Done {
+        unsafe {
+            maldjupp_fill_poly(
+                self,
+                px.as_mut_ptr(),
+                px.len(),
+                points.as_ptr().cast(),
+                2 * points.len(),
+                brush,
+                scratch.as_mut_ptr(),
+                scratch.len(),
+            )
+        }
+    }
+
+    pub fn shadow_rrect(self, px: &mut [u32], rect: Rect, r: f32, blur: f32, color: Color, skip_inside: bool) -> Done {
+        unsafe { maldjupp_shadow_rrect(self, px.as_mut_ptr(), px.len(), rect, r, blur, color, skip_inside) }
+    }
+}
+
+#[cfg(test)]
+mod tests {
+    use super::*;
+
+    const AREA: IRect = IRect::new(-1, 2, 3, -4);
+
+    /// A state of which each number is another; it is none that a canvas can be in.
+    fn odd() -> State {
+        let saved = std::array::from_fn(|i| IRect::new(100 + i as i32, 200 + i as i32, -300 - i as i32, 400 + i as i32));
+        State { w: 7, h: 9, clip: AREA, saved, depth: 1 << 40 }
+    }
+
+    /// Each field of a state comes back as it was given, and the number beside it.
+    #[test]
+    fn a_refused_state_comes_back() {
+        let px = &mut [5; 4];
+        let (rect, pt, brush) = (Rect::new(0.0, 0.0, 2.0, 2.0), Pt::new(1.0, 1.0), Brush::from(Paint::Solid(Color::WHITE)));
+        let all = [
+            odd().resize(2, 2, px),
+            odd().push_clip(rect),
+            odd().push_clip_i(AREA),
+            odd().pop_clip(),
+            odd().clear(px, Color::WHITE),
+            odd().fill_rrect(px, rect, 1.0, brush),
+            odd().fill_rect(px, rect, brush),
+            odd().fill_circle(px, 1.0, 1.0, 1.0, brush),
+            odd().stroke_rrect(px, rect, 1.0, 1.0, Color::WHITE),
+            odd().ring(px, 1.0, 1.0, 1.0, 1.0, Color::WHITE),
+            odd().line(px, pt, pt, 1.0, Color::WHITE),
+            odd().polyline(px, &[pt; 3], 1.0, Color::WHITE),
+            odd().fill_poly(px, &[pt; 3], brush, &mut [0.0; 99]),
+            odd().shadow_rrect(px, rect, 1.0, 1.0, Color::WHITE, false),
+        ];
+        assert!(all.iter().all(|done| done.number == 12 && done.state == odd()));
+        assert_eq!((odd().bounds().number, odd().clip().number, odd().get(px, 0, 0).number), (12, 12, 12));
+        assert_eq!(*px, [5; 4]);
+    }
+
+    /// A paint kind over 3 is refused by 5, after 12, 8 and 13 and before 6 and 9.
+    #[test]
+    fn a_kind_over_3_is_refused() {
+        let px = &mut [0; 4];
+        let state = State::blank(2, 2, px).state;
+        let (bad, fit, points) = (Rect::new(f32::NAN, 0.0, 2.0, 2.0), Rect::new(0.0, 0.0, 2.0, 2.0), [Pt::new(0.0, 9000.0); 65]);
+        for kind in [4, 5, 255, 256, u32::MAX] {
+            let brush = Brush { kind, colors: [Color::WHITE; 2], floats: [f32::NAN; 4] };
+            assert_eq!(odd().fill_rect(px, fit, brush).number, 12);
+            assert_eq!(state.fill_rect(&mut [0; 3], fit, brush).number, 8);
+            assert_eq!(state.fill_poly(px, &points, brush, &mut []).number, 13);
+            let fives = [
+                state.fill_rect(px, bad, brush),
+                state.fill_rrect(px, bad, 0.0, brush),
+                state.fill_circle(px, f32::NAN, 0.0, 1.0, brush),
+                state.fill_poly(px, &points[..64], brush, &mut []),
+            ];
+            assert!(fives.iter().all(|done| done.number == 5 && done.state == state));
+        }
+        assert_eq!(*px, [0; 4]);
+    }
+
+    /// What a kind does not use is not read.
+    #[test]
+    fn what_a_paint_does_not_use_is_free() {
+        let px = &mut [0; 1];
+        let state = State::blank(1, 1, px).state;
+        let brush = Brush { kind: 0, colors: [Color::rgb(1, 2, 3), Color::WHITE], floats: [f32::NAN; 4] };
+        assert_eq!(state.fill_rect(px, Rect::new(-1.0, -1.0, 9.0, 9.0), brush).number, 0);
+        assert_eq!(*px, [0x0001_0203]);
     }
 }

@@ -1,7 +1,7 @@
-//! Why a sheet is refused, and why a call of the builder is.
+//! Why the library refuses a call, and why a call of the builder is not carried out.
 use std::{error, fmt};
 
-/// Why the library refused a sheet or a patch.
+/// Why the library refused a sheet, a patch or a call of a canvas.
 #[derive(Clone, Copy, Debug, PartialEq, Eq)]
 #[non_exhaustive]
 pub enum Refusal {
@@ -25,6 +25,8 @@ pub enum Refusal {
     Scratch,
     /// 10
     Difference,
+    /// 12
+    State,
     /// 13
     Points,
     /// A number that this crate does not know.
@@ -32,8 +34,8 @@ pub enum Refusal {
 }
 
 impl Refusal {
-    /// Every refusal that a sheet call gives.
-    pub const ALL: [Refusal; 11] = [
+    /// Every refusal that a call gives.
+    pub const ALL: [Refusal; 12] = [
         Refusal::SheetLength,
         Refusal::Header,
         Refusal::Pairs,
@@ -44,6 +46,7 @@ impl Refusal {
         Refusal::Pixels,
         Refusal::Scratch,
         Refusal::Difference,
+        Refusal::State,
         Refusal::Points,
     ];
 
@@ -60,6 +63,7 @@ impl Refusal {
             Refusal::Pixels => 8,
             Refusal::Scratch => 9,
             Refusal::Difference => 10,
+            Refusal::State => 12,
             Refusal::Points => 13,
             Refusal::Other(number) => number,
         }
@@ -81,12 +85,13 @@ impl Refusal {
             Refusal::Pairs => "The pairs of offset and length do not run on to the end of the sheet.",
             Refusal::Kind => "The item's kind is unknown, or its length is not its kind's.",
             Refusal::ZeroByte => "A zero byte of the item is filled, its paint kind is over 3 or its skip_inside over 1.",
-            Refusal::Float => "A float of the item is not finite or past 8,192 either way.",
-            Refusal::Clips => "The item pushes a clip while 16 are saved.",
+            Refusal::Float => "A float is not finite or past 8,192 either way.",
+            Refusal::Clips => "A clip is pushed while 16 are saved.",
             Refusal::Pixels => "The pixels lent are not width times height.",
-            Refusal::Scratch => "The scratch lent is less than the sheet needs.",
+            Refusal::Scratch => "The scratch lent is less than is needed.",
             Refusal::Difference => "The sheets differ in more than one shape, or in something other than a shape.",
-            Refusal::Points => "The polygon has over 64 points.",
+            Refusal::State => "The state is none that a canvas can be in.",
+            Refusal::Points => "There are over 64 points.",
             Refusal::Other(_) => "The library gave a number that this crate does not know.",
         }
     }
@@ -97,6 +102,8 @@ impl fmt::Display for Refusal {
         f.write_str(self.sentence())
     }
 }
+
+impl error::Error for Refusal {}
 
 /// A refusal and the item that it names.
 #[derive(Clone, Copy, Debug, PartialEq, Eq)]

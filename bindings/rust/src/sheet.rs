@@ -1,5 +1,6 @@
 //! The sheet: a header, pairs of offset and length, and the items in the order in which they are drawn.
 use crate::{Color, Paint, Pt, Rect, SheetError};
+use std::ops::Range;
 
 const LIMIT: f32 = 8192.0;
 const SIDES: std::ops::RangeInclusive<u32> = 1..=2048;
@@ -335,6 +336,17 @@ impl SheetBuilder {
         self.add(&Shape::line(a, b, width, color))
     }
 
+    /// Draws lines from point to point, one after the other, each an item of its own; returns their indices.
+    pub fn polyline(&mut self, points: &[Pt], width: f32, color: Color) -> Result<Range<usize>, SheetError> {
+        let mut longer = self.clone();
+        for ends in points.windows(2) {
+            longer.line(ends[0], ends[1], width, color)?;
+        }
+        let indices = self.items()..longer.items();
+        *self = longer;
+        Ok(indices)
+    }
+
     /// Fills a polygon of at most 64 points.
     pub fn fill_poly(&mut self, points: &[Pt], paint: impl Into<Paint>) -> Result<usize, SheetError> {
         self.add(&Shape::fill_poly(points, paint))
@@ -414,16 +426,21 @@ impl SheetBuilder {
     }
 }
 
+/// Pixels of a canvas; 0 where a side is outside 1 to 2,048.
+pub(crate) fn area(w: u32, h: u32) -> usize {
+    if SIDES.contains(&w) && SIDES.contains(&h) {
+        w as usize * h as usize
+    } else {
+        0
+    }
+}
+
 /// Pixels of a sheet's canvas; 0 where the library refuses the sheet by its length or sides.
 pub(crate) fn pixels(sheet: &[u8]) -> usize {
     match sheet {
         [a, b, c, d, ..] if (HEADER..=MOST_BYTES).contains(&sheet.len()) => {
             let [w, h] = [[*a, *b], [*c, *d]].map(|side| u32::from(u16::from_le_bytes(side)));
-            if SIDES.contains(&w) && SIDES.contains(&h) {
-                w as usize * h as usize
-            } else {
-                0
-            }
+            area(w, h)
         }
         _ => 0,
     }
@@ -438,24 +455,30 @@ pub(crate) fn scratch_words(sheet: &[u8]) -> usize {
         let length = u16::from_le_bytes([pair[2], pair[3]]) as usize;
         sheet.get(at..at + length)
     };
-    pairs.take(count).filter_map(item).map(polygon_words).max().unwrap_or(0)
+    pairs.take(count).filter_map(item).map(|item| polygon_words(&corners(item))).max().unwrap_or(0)
 }
 
-fn polygon_words(item: &[u8]) -> usize {
-    if item.first() != Some(&POLYGON) || item.len() < 32 + 3 * 8 {
+/// The corners of a polygon's item; none of any other item.
+fn corners(item: &[u8]) -> Vec<Pt> {
+    let float = |b: &[u8]| f32::from_le_bytes([b[0], b[1], b[2], b[3]]);
+    match item {
+        [POLYGON, ..] => item.get(32..).unwrap_or_default().chunks_exact(8).map(|p| Pt::new(float(p), float(&p[4..]))).collect(),
+        _ => vec![],
+    }
+}
+
+/// Scratch words that a polygon needs. Of one that is refused anyway, any number.
+pub(crate) fn polygon_words(points: &[Pt]) -> usize {
+    let within = |p: &Pt| [p.x, p.y].iter().all(|v| (-LIMIT..=LIMIT).contains(v));
+    if points.len() < 3 || !points.iter().all(within) {
         return 0;
     }
-    let floats = item[32..].chunks_exact(4).map(|b| f32::from_le_bytes([b[0], b[1], b[2], b[3]]));
-    let (xs, ys): (Vec<_>, Vec<_>) = floats.enumerate().partition(|(i, _)| i % 2 == 0);
-    let side = |places: Vec<(usize, f32)>| {
-        let least = places.iter().fold(f32::MAX, |m, (_, v)| m.min(*v));
-        let most = places.iter().fold(f32::MIN, |m, (_, v)| m.max(*v));
+    let side = |of: fn(&Pt) -> f32| {
+        let least = points.iter().map(of).fold(f32::MAX, f32::min);
+        let most = points.iter().map(of).fold(f32::MIN, f32::max);
         (most.ceil() as i64 + 1) - (least.floor() as i64 - 1)
     };
-    if xs.iter().chain(&ys).any(|(_, v)| !(-LIMIT..=LIMIT).contains(v)) {
-        return 0;
-    }
-    let (w, h) = (side(xs), side(ys));
+    let (w, h) = (side(|p| p.x), side(|p| p.y));
     if w * h > MOST_CELLS {
         0
     } else {

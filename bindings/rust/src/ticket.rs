@@ -27,7 +27,7 @@ pub struct Ticket {
 
 fn answer(reply: raw::Reply) -> Result<IRect, Refused> {
     match Refusal::of(reply.number) {
-        None => Ok(IRect::new(reply.x0, reply.y0, reply.x1, reply.y1)),
+        None => Ok(reply.area),
         Some(refusal) => Err(Refused { refusal, item: reply.item }),
     }
 }

@@ -1,6 +1,7 @@
 //! Colours, points, rectangles and paints, named as in kash-ui.
 
 /// A colour with straight alpha: 0 paints nothing, 255 covers.
+#[repr(C)]
 #[derive(Clone, Copy, Debug, PartialEq, Eq)]
 pub struct Color {
     /// Red.
@@ -36,6 +37,7 @@ impl Color {
 }
 
 /// A point.
+#[repr(C)]
 #[derive(Clone, Copy, Debug, PartialEq, Default)]
 pub struct Pt {
     /// Column.
@@ -52,6 +54,7 @@ impl Pt {
 }
 
 /// A rectangle. Negative sides are allowed.
+#[repr(C)]
 #[derive(Clone, Copy, Debug, PartialEq, Default)]
 pub struct Rect {
     /// Left edge.
@@ -77,6 +80,7 @@ impl Rect {
 }
 
 /// A box of pixels: columns x0 up to but without x1, rows y0 up to but without y1.
+#[repr(C)]
 #[derive(Clone, Copy, Debug, PartialEq, Eq, Default)]
 pub struct IRect {
     /// First column.

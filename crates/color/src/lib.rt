@@ -18,6 +18,7 @@ pub use crate::hues::hsv;
 pub use crate::mixing::mix_pix;
 
 // A colour: red, green, blue and straight alpha.
+#[repr(C)]
 pub struct Color {
     pub r: u8,
     pub g: u8,
@@ -26,6 +27,7 @@ pub struct Color {
 }
 
 // A pixel that a call returns, beside its number.
+#[repr(C)]
 pub struct Pixel {
     pub number: u32,
     pub value: u32,

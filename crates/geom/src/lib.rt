@@ -8,12 +8,14 @@ ghost use Rattle.geom.specs.Box.{boxOf, meet, empty};
 ghost use Rattle.geom.specs.Plane.{ptOf, rectOf, rightOf, bottomOf, cxOf, cyOf, insetOf, offsetOf, intersectOf, unionOf, noArea, outerOf, floatOk, ptOk, rectOk};
 
 // A point of the plane.
+#[repr(C)]
 pub struct Pt {
     pub x: f32,
     pub y: f32,
 }
 
 // A rectangle of the plane: its corner, its width and its height.
+#[repr(C)]
 pub struct Rect {
     pub x: f32,
     pub y: f32,
@@ -22,6 +24,7 @@ pub struct Rect {
 }
 
 // A box of pixels, half-open: x1 and y1 are the first column and row past it.
+#[repr(C)]
 pub struct IRect {
     pub x0: i32,
     pub y0: i32,

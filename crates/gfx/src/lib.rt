@@ -28,6 +28,7 @@ ghost use Rattle.gfx.specs.State.{placeOk, placesOk, frameOk, validOf, f
 ghost use Rattle.gfx.specs.Calls.{Called, answer, boxAnswer, pixelAnswer, raised, newNumber, resizeNumber, sameSize, resized, resizedPx, stateNumber, pushBoxNumber, pushNumber, pxNumber, shapeNumber, nearestIn, pixelAt};
 
 // A canvas without its pixels: its sides, its clip, and up to 16 saved clips, of which `depth` are in use.
+#[repr(C)]
 pub struct Canvas {
     pub w: i32,
     pub h: i32,
@@ -37,12 +38,14 @@ pub struct Canvas {
 }
 
 // What a call on a canvas returns: its number, 0 where it is accepted, and the state.
+#[repr(C)]
 pub struct Done {
     pub number: u32,
     pub canvas: Canvas,
 }
 
 // A box that a call returns, beside its number.
+#[repr(C)]
 pub struct Boxed {
     pub number: u32,
     pub area: IRect,

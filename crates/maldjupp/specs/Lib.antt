@@ -1,2 +1,2 @@
--- The definition that the contracts of `maldjupp` cite. Assumes nothing.
-pub mod Replies
+-- The definitions that the contracts of `maldjupp` cite. Assumes nothing.
+pub mod Brushes

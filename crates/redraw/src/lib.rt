@@ -3,6 +3,7 @@
 use geom::IRect;
 
 // What a sheet call returns: number, item and box.
+#[repr(C)]
 pub struct Answer {
     pub number: u32,
     pub item: u32,

@@ -6,9 +6,6 @@ use Rattle.maldjupp.proofs.maldjupp_paint.Tie as tie
 paint-requires : tie.Need-paint-requires
 paint-requires c κs = tt
 
-laid-out-requires : tie.Need-laid-out-requires
-laid-out-requires c κs = tt
-
 same-length : tie.Need-same-length
 same-length c = search needs
 
@@ -16,7 +13,7 @@ same-length-2 : tie.Need-same-length-2
 same-length-2 c = search needs
 
 returns : tie.Need-returns
-returns c = rw (c .laid-out .ensures) (c .before .before .before .before .before .paint .ensures)
+returns c = c .before .before .before .before .paint .ensures
 
 pub maldjupp-paint-spec : {M : Type 1} → statement M
-maldjupp-paint-spec = tie.close (tie.spec paint-requires laid-out-requires same-length same-length-2 returns)
+maldjupp-paint-spec = tie.close (tie.spec paint-requires same-length same-length-2 returns)

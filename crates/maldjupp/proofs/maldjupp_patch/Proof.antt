@@ -6,9 +6,6 @@ use Rattle.maldjupp.proofs.maldjupp_patch.Tie as tie
 patch-requires : tie.Need-patch-requires
 patch-requires c κs = tt
 
-laid-out-requires : tie.Need-laid-out-requires
-laid-out-requires c κs = tt
-
 same-length : tie.Need-same-length
 same-length c = search needs
 
@@ -16,7 +13,7 @@ same-length-2 : tie.Need-same-length-2
 same-length-2 c = search needs
 
 returns : tie.Need-returns
-returns c = rw (c .laid-out .ensures) (c .before .before .before .before .before .patch .ensures)
+returns c = c .before .before .before .before .patch .ensures
 
 pub maldjupp-patch-spec : {M : Type 1} → statement M
-maldjupp-patch-spec = tie.close (tie.spec patch-requires laid-out-requires same-length same-length-2 returns)
+maldjupp-patch-spec = tie.close (tie.spec patch-requires same-length same-length-2 returns)

@@ -1,0 +1,170 @@
+//! The canvas: pixels that are drawn on call by call.
+use crate::raw::{Done, State};
+use crate::{sheet, to_ppm, Color, IRect, Paint, Pt, Rect, Refusal};
+
+/// A canvas with its pixels, and kash-ui's calls. The sides are 1 to 2,048; up to 16 clips are saved at once.
+///
+/// A call that the library refuses returns why, and the canvas stays as it was: every float must be finite and -8,192 to 8,192, and a
+/// polygon or polyline has at most 64 points.
+///
+/// ```
+/// use maldjupp::{Canvas, Color, IRect, Paint, Pt, Rect, Refusal};
+/// let mut canvas = Canvas::new(120, 80)?;
+/// canvas.clear(Color::hex(0xDEDBD2))?;
+/// canvas.push_clip(Rect::new(8.0, 8.0, 104.0, 64.0))?;
+/// canvas.fill_circle(30.0, 40.0, 16.0, Paint::VGrad { y0: 24.0, y1: 56.0, c0: Color::WHITE, c1: Color::rgb(184, 115, 51) })?;
+/// canvas.polyline(&[Pt::new(50.0, 60.0), Pt::new(70.0, 20.0), Pt::new(90.0, 60.0)], 3.0, Color::BLACK)?;
+/// assert_eq!(canvas.clip(), IRect::new(8, 8, 112, 72));
+/// canvas.pop_clip()?;
+/// assert_eq!((canvas.get(0, 0), canvas.get(70, 21)), (0x00DE_DBD2, 0));
+///
+/// assert_eq!(canvas.ring(30.0, f32::NAN, 16.0, 2.0, Color::BLACK), Err(Refusal::Float));
+/// # Ok::<(), Refusal>(())
+/// ```
+#[derive(Clone, Debug)]
+pub struct Canvas {
+    state: State,
+    px: Vec<u32>,
+    scratch: Vec<f32>,
+}
+
+/// Pixels of a canvas whose sides are raised to 1; 0 where the library refuses a side.
+fn pixels(w: i32, h: i32) -> usize {
+    let [w, h] = [w, h].map(|side| side.max(1) as u32);
+    sheet::area(w, h)
+}
+
+fn state(done: Done) -> Result<State, Refusal> {
+    Refusal::of(done.number).map_or(Ok(done.state), Err)
+}
+
+impl Canvas {
+    /// A canvas whose pixels are 0. A side below 1 is raised to 1.
+    pub fn new(w: i32, h: i32) -> Result<Canvas, Refusal> {
+        let mut px = vec![0; pixels(w, h)];
+        let state = state(State::blank(w, h, &mut px))?;
+        Ok(Canvas { state, px, scratch: vec![] })
+    }
+
+    /// Makes the canvas another size: its pixels are then 0, its clip is all of it and none is saved. The same size alters nothing.
+    pub fn resize(&mut self, w: i32, h: i32) -> Result<(), Refusal> {
+        let length = pixels(w, h);
+        if length == self.px.len() {
+            return self.on(|state, px| state.resize(w, h, px));
+        }
+        let mut px = vec![0; length];
+        self.state = state(self.state.resize(w, h, &mut px))?;
+        self.px = px;
+        Ok(())
+    }
+
+    /// The whole canvas.
+    pub fn bounds(&self) -> IRect {
+        self.state.bounds().area
+    }
+
+    /// The clip.
+    pub fn clip(&self) -> IRect {
+        self.state.clip().area
+    }
+
+    /// Saves the clip and cuts it to the pixels around a rectangle.
+    pub fn push_clip(&mut self, rect: Rect) -> Result<(), Refusal> {
+        self.on(|state, _| state.push_clip(rect))
+    }
+
+    /// Saves the clip and cuts it to a box.
+    pub fn push_clip_i(&mut self, area: IRect) -> Result<(), Refusal> {
+        self.on(|state, _| state.push_clip_i(area))
+    }
+
+    /// Takes back the clip saved last; does nothing where none is saved.
+    pub fn pop_clip(&mut self) -> Result<(), Refusal> {
+        self.on(|state, _| state.pop_clip())
+    }
+
+    /// Sets every pixel to a colour, whatever the clip. The colour's alpha is not used.
+    pub fn clear(&mut self, color: Color) -> Result<(), Refusal> {
+        self.on(|state, px| state.clear(px, color))
+    }
+
+    /// The pixel at a column and row, each brought to the nearest inside.
+    pub fn get(&self, x: i32, y: i32) -> u32 {
+        self.state.get(&self.px, x, y).value
+    }
+
+    /// Fills a rectangle.
+    pub fn fill_rect(&mut self, rect: Rect, paint: impl Into<Paint>) -> Result<(), Refusal> {
+        self.on(|state, px| state.fill_rect(px, rect, paint.into().into()))
+    }
+
+    /// Fills a rectangle with rounded corners.
+    pub fn fill_rrect(&mut self, rect: Rect, r: f32, paint: impl Into<Paint>) -> Result<(), Refusal> {
+        self.on(|state, px| state.fill_rrect(px, rect, r, paint.into().into()))
+    }
+
+    /// Fills a circle. The square around it may pass 8,192.
+    pub fn fill_circle(&mut self, cx: f32, cy: f32, r: f32, paint: impl Into<Paint>) -> Result<(), Refusal> {
+        self.on(|state, px| state.fill_circle(px, cx, cy, r, paint.into().into()))
+    }
+
+    /// Draws the rim of a rectangle with rounded corners.
+    pub fn stroke_rrect(&mut self, rect: Rect, r: f32, width: f32, color: Color) -> Result<(), Refusal> {
+        self.on(|state, px| state.stroke_rrect(px, rect, r, width, color))
+    }
+
+    /// Draws a ring. The square around it may pass 8,192.
+    pub fn ring(&mut self, cx: f32, cy: f32, r: f32, width: f32, color: Color) -> Result<(), Refusal> {
+        self.on(|state, px| state.ring(px, cx, cy, r, width, color))
+    }
+
+    /// Draws a line with round ends.
+    pub fn line(&mut self, a: Pt, b: Pt, width: f32, color: Color) -> Result<(), Refusal> {
+        self.on(|state, px| state.line(px, a, b, width, color))
+    }
+
+    /// Draws lines from point to point, one after the other.
+    pub fn polyline(&mut self, points: &[Pt], width: f32, color: Color) -> Result<(), Refusal> {
+        self.on(|state, px| state.polyline(px, points, width, color))
+    }
+
+    /// Fills a polygon of at most 64 points.
+    pub fn fill_poly(&mut self, points: &[Pt], paint: impl Into<Paint>) -> Result<(), Refusal> {
+        let need = sheet::polygon_words(points);
+        if self.scratch.len() < need {
+            self.scratch.resize(need, 0.0);
+        }
+        self.state = state(self.state.fill_poly(&mut self.px, points, paint.into().into(), &mut self.scratch))?;
+        Ok(())
+    }
+
+    /// Draws a soft shadow.
+    pub fn shadow_rrect(&mut self, rect: Rect, r: f32, blur: f32, color: Color, skip_inside: bool) -> Result<(), Refusal> {
+        self.on(|state, px| state.shadow_rrect(px, rect, r, blur, color, skip_inside))
+    }
+
+    /// The pixels, row by row, each 0x00RRGGBB.
+    pub fn px(&self) -> &[u32] {
+        &self.px
+    }
+
+    /// The width.
+    pub fn width(&self) -> usize {
+        self.state.w as usize
+    }
+
+    /// The height.
+    pub fn height(&self) -> usize {
+        self.state.h as usize
+    }
+
+    /// The picture as a PPM file.
+    pub fn to_ppm(&self) -> Vec<u8> {
+        to_ppm(self.width(), &self.px)
+    }
+
+    fn on(&mut self, call: impl FnOnce(State, &mut [u32]) -> Done) -> Result<(), Refusal> {
+        self.state = state(call(self.state, &mut self.px))?;
+        Ok(())
+    }
+}

@@ -1,0 +1,124 @@
+//! Drawing call by call: the pixels are those of the sheet with the same calls, and a refused call alters nothing.
+use maldjupp::{Canvas, Color, IRect, Pt, Rect, Refusal, Shape, SheetBuilder, SheetError, Ticket};
+use random::Random;
+
+mod random;
+
+fn draw(canvas: &mut Canvas, shape: &Shape) -> Result<(), Refusal> {
+    match shape {
+        Shape::Fill { rect, r, paint } => canvas.fill_rrect(*rect, *r, *paint),
+        Shape::Stroke { rect, r, width, color } => canvas.stroke_rrect(*rect, *r, *width, *color),
+        Shape::Line { a, b, width, color } => canvas.line(*a, *b, *width, *color),
+        Shape::Poly { points, paint } => canvas.fill_poly(points, *paint),
+        Shape::Shadow { rect, r, blur, color, skip_inside } => canvas.shadow_rrect(*rect, *r, *blur, *color, *skip_inside),
+    }
+}
+
+/// A random call on both, and whether their limits are the same: a sheet has no polyline, and a circle is there the square around it.
+fn call(random: &mut Random, canvas: &mut Canvas, b: &mut SheetBuilder) -> (Result<(), Refusal>, Result<(), SheetError>, bool) {
+    let (x, y, r, width, color, paint) = (random.float(), random.float(), random.float(), random.float(), random.color(), random.paint());
+    let (rect, points) = (random.rect(), random.points());
+    match random.below(12) {
+        0 | 1 => (canvas.push_clip(rect), b.push_clip(rect).map(drop), true),
+        2 => (canvas.pop_clip(), b.pop_clip().map(drop), true),
+        3 => (canvas.fill_rect(rect, paint), b.fill_rect(rect, paint).map(drop), true),
+        4 => (canvas.fill_circle(x, y, r, paint), b.fill_circle(x, y, r, paint).map(drop), false),
+        5 => (canvas.ring(x, y, r, width, color), b.ring(x, y, r, width, color).map(drop), false),
+        6 => (canvas.polyline(&points, width, color), b.polyline(&points, width, color).map(drop), false),
+        _ => {
+            let shape = random.shape();
+            (draw(canvas, &shape), b.add(&shape).map(drop), true)
+        }
+    }
+}
+
+#[test]
+fn the_pixels_are_those_of_the_sheet() {
+    let mut random = Random(4);
+    let (mut accepted, mut altered, mut refused) = (0, 0, [0; 14]);
+    for _ in 0..600 {
+        let (w, h, ground) = (1 + random.below(40) as i32, 1 + random.below(30) as i32, random.color());
+        let (mut canvas, mut b) = (Canvas::new(w, h).unwrap(), SheetBuilder::new(w as u32, h as u32, ground).unwrap());
+        canvas.clear(ground).unwrap();
+        for _ in 0..random.below(60) {
+            let before = (canvas.clone(), b.clone());
+            match call(&mut random, &mut canvas, &mut b) {
+                (Ok(()), Ok(()), _) => accepted += 1,
+                (Err(refusal), built, alike) => {
+                    refused[refusal.number() as usize] += 1;
+                    assert_eq!((canvas.px(), canvas.clip()), (before.0.px(), before.0.clip()));
+                    assert!(!alike || built.unwrap_err().refusal() == Some(refusal));
+                    b = before.1;
+                }
+                (Ok(()), Err(error), alike) => {
+                    assert!(!alike, "{error}");
+                    canvas = before.0;
+                }
+            }
+        }
+        assert_eq!(canvas.px(), Ticket::paint(&b).unwrap().px());
+        altered += canvas.px().iter().any(|p| *p != canvas.get(0, 0)) as u32;
+    }
+    assert!(accepted > 10_000 && altered > 400 && refused[6] > 100 && refused[13] > 100, "{accepted} {altered} {refused:?}");
+    assert_eq!(refused.iter().sum::<u32>(), refused[6] + refused[7] + refused[13]);
+}
+
+#[test]
+fn sizes() {
+    let mut canvas = Canvas::new(-7, 2).unwrap();
+    assert_eq!((canvas.width(), canvas.height(), canvas.px()), (1, 2, &[0, 0][..]));
+    canvas.clear(Color::WHITE).unwrap();
+    canvas.push_clip_i(IRect::new(0, 1, 9, 9)).unwrap();
+    for (w, h) in [(2049, 1), (1, 2049), (i32::MAX, i32::MAX)] {
+        assert_eq!(Canvas::new(w, h).unwrap_err(), Refusal::Header);
+        assert_eq!(canvas.resize(w, h), Err(Refusal::Header));
+    }
+    canvas.resize(1, 2).unwrap();
+    assert_eq!((canvas.px(), canvas.clip(), canvas.bounds()), (&[0xFF_FFFF; 2][..], IRect::new(0, 1, 1, 2), IRect::new(0, 0, 1, 2)));
+    canvas.resize(2, 0).unwrap();
+    assert_eq!((canvas.px(), canvas.clip(), canvas.width()), (&[0; 2][..], IRect::new(0, 0, 2, 1), 2));
+    canvas.resize(2048, 2048).unwrap();
+    assert_eq!((canvas.px().len(), canvas.bounds()), (2048 * 2048, IRect::new(0, 0, 2048, 2048)));
+}
+
+#[test]
+fn clips() {
+    let mut canvas = Canvas::new(4, 1).unwrap();
+    canvas.pop_clip().unwrap();
+    for i in 0..16 {
+        canvas.push_clip_i(IRect::new(i / 8, -3, i32::MAX, 4 - i)).unwrap();
+    }
+    let clip = canvas.clip();
+    assert!(clip.is_empty());
+    assert_eq!((canvas.push_clip(Rect::default()), canvas.push_clip_i(clip)), (Err(Refusal::Clips), Err(Refusal::Clips)));
+    assert_eq!(canvas.push_clip(Rect::new(f32::NAN, 0.0, 1.0, 1.0)), Err(Refusal::Float));
+    assert_eq!(canvas.clip(), clip);
+    for _ in 0..13 {
+        canvas.pop_clip().unwrap();
+    }
+    canvas.fill_rect(Rect::new(-9.0, -9.0, 11.0, 30.0), Color::rgb(1, 2, 3)).unwrap();
+    assert_eq!(canvas.px(), [0x01_0203, 0x01_0203, 0, 0]);
+    assert_eq!((canvas.get(-5, 7), canvas.get(99, 0)), (0x01_0203, 0));
+    assert_eq!(canvas.to_ppm(), b"P6\n4 1\n255\n\x01\x02\x03\x01\x02\x03\0\0\0\0\0\0");
+}
+
+#[test]
+fn polylines() {
+    let way = [Pt::new(1.0, 2.0), Pt::new(20.0, 5.0), Pt::new(9.0, 17.5)];
+    let mut b = SheetBuilder::new(24, 20, Color::WHITE).unwrap();
+    b.fill_rect(Rect::new(3.0, 3.0, 9.0, 9.0), Color::BLACK).unwrap();
+    assert_eq!(b.polyline(&way, 2.5, Color::rgba(200, 0, 0, 99)), Ok(1..3));
+    assert_eq!((b.polyline(&way[..1], 1.0, Color::BLACK), b.polyline(&[], 1.0, Color::BLACK)), (Ok(3..3), Ok(3..3)));
+    let before = b.clone();
+    let error = b.polyline(&[way[0], way[1], Pt::new(0.0, 9000.0)], 1.0, Color::BLACK).unwrap_err();
+    assert_eq!((error.to_string().as_str(), &b), ("b.y is 9000; it must be -8,192 to 8,192", &before));
+    assert_eq!(b.polyline(&[Pt::default(); 1023], 1.0, Color::BLACK), Err(SheetError::Items));
+    assert_eq!(b.polyline(&[Pt::default(); 1022], 1.0, Color::BLACK), Ok(3..1024));
+
+    let mut canvas = Canvas::new(24, 20).unwrap();
+    canvas.clear(Color::WHITE).unwrap();
+    canvas.fill_rect(Rect::new(3.0, 3.0, 9.0, 9.0), Color::BLACK).unwrap();
+    canvas.polyline(&way, 2.5, Color::rgba(200, 0, 0, 99)).unwrap();
+    assert_eq!(canvas.px(), Ticket::paint(&before).unwrap().px());
+    assert_eq!(canvas.polyline(&[Pt::default(); 65], 1.0, Color::BLACK), Err(Refusal::Points));
+}

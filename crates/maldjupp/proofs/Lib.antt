@@ -1,0 +1,2 @@
+-- The laws behind the proofs of `maldjupp`. Assumes nothing.
+pub mod Numbers

@@ -1,0 +1,21 @@
+-- `maldjupp::brush::kind_number` meets its contract. Assumes nothing.
+use mathlib.Core.Path.{_∙_, sym}
+use borrow.Author.Needs.{needs}
+use Rattle.gfx.proofs.Sizes.{px-refused, px-passed}
+use Rattle.maldjupp.specs.Brushes.{kindNumber}
+use Rattle.maldjupp.proofs.brush.kind_number.Statement.{statement}
+use Rattle.maldjupp.proofs.brush.kind_number.Tie as tie
+
+px-number-requires : tie.Need-px-number-requires
+px-number-requires c κs = search needs
+
+returns : tie.Need-returns
+unfolding kindNumber
+returns c = px-refused _ _ _ (c .before .px-number .ensures) (c .if1 .taken)
+
+returns-2 : tie.Need-returns-2
+unfolding kindNumber
+returns-2 c = px-passed _ _ _ (sym (c .before .px-number .ensures) ∙ c .if1 .left)
+
+pub kind-number-spec : {M : Type 1} → statement M
+kind-number-spec = tie.close (tie.spec px-number-requires returns returns-2)

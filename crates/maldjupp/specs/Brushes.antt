@@ -1,0 +1,71 @@
+-- A paint as it crosses to C: its kind, two colours and four floats, as in a sheet (document 01, "The sheet"). A kind over 3 is refused by
+-- 5, which stands where it does for an item: after 13 and before 6. Assumes nothing.
+use mathlib.Core.Bool.{Bool, _&&_}
+use mathlib.Core.List.{List, [], _∷_}
+use Prim.Native.Nat.{ℕ}
+use lib.Dec.{leb, eqb}
+use lib.Ieee.{Float}
+use lib.ListN.{length}
+use Rattle.geom.specs.Int.{up}
+use Rattle.geom.specs.Plane.{ptOf}
+use Rattle.geom.specs.declared.Rect.{Rect}
+use Rattle.draw.specs.Draw.{drawn}
+use Rattle.paints.specs.declared.Paint.{Paint}
+use Rattle.paints.specs.declared.Paint.the-variants.{Solid, VGrad, Linear, Radial}
+use Rattle.paints.specs.Paints.{paintOk}
+use Rattle.gfx.specs.declared.Canvas.{Canvas}
+use Rattle.gfx.specs.declared.Done.{Done}
+use Rattle.gfx.specs.State.{validOf}
+use Rattle.gfx.specs.Calls.{unless, areaOf, Called}
+use Rattle.gfx.specs.Points.{pointsOk, coordsOk}
+use Rattle.fill.specs.Fill.{fillReach, fillInk}
+use Rattle.poly.specs.Poly.{polyNeed}
+use Rattle.sheet.specs.Bytes.{lookup}
+use Rattle.maldjupp.specs.declared.brush.Brush.{Brush}
+
+-- the paint of a brush; one that is not refused has a kind of 0 to 3
+unfoldable pub paintOf : Brush → Paint
+paintOf b =
+    lookup (b .kind)
+    ((0, Solid (b .c0))
+    ∷ (1, VGrad (b .v0) (b .v1) (b .c0) (b .c1))
+    ∷ (2, Linear (ptOf (b .v0) (b .v1)) (ptOf (b .v2) (b .v3)) (b .c0) (b .c1))
+    ∷ [])
+    (Radial (ptOf (b .v0) (b .v1)) (b .v2) (b .c0) (b .c1))
+
+abbrev pub kindOk : Brush → Bool
+kindOk b = leb (b .kind) 3
+
+-- ---- numbers
+
+-- a fill on n lent pixels, by whether the floats given are finite and within 8,192 of 0: 12, 8, 5, then 6
+unfoldable pub brushNumber : Canvas → ℕ → Brush → Bool → ℕ
+brushNumber c n b floatsOk =
+    unless (validOf c) 12
+    (unless (eqb n (areaOf (c .w) (c .h))) 8
+    (unless (kindOk b) 5
+    (unless floatsOk 6 0)))
+
+-- a polygon with so many words of scratch: 12, 8, 13, 5, 6, then 9
+unfoldable pub pointsBrushNumber : Canvas → ℕ → List Float → Brush → ℕ → ℕ
+pointsBrushNumber c n pts b words =
+    unless (validOf c) 12
+    (unless (eqb n (areaOf (c .w) (c .h))) 8
+    (unless (pointsOk pts) 13
+    (unless (kindOk b) 5
+    (unless (coordsOk pts && paintOk (paintOf b)) 6
+    (unless (leb (polyNeed pts) words) 9 0)))))
+
+-- the two where the kind is over 3
+unfoldable pub kindNumber : Canvas → ℕ → ℕ
+kindNumber c n = unless (validOf c) 12 (unless (eqb n (areaOf (c .w) (c .h))) 8 5)
+
+unfoldable pub pointsKindNumber : Canvas → ℕ → List Float → ℕ
+pointsKindNumber c n pts = unless (validOf c) 12 (unless (eqb n (areaOf (c .w) (c .h))) 8 (unless (pointsOk pts) 13 5))
+
+-- ---- the fills
+
+-- what a fill with a brush promises: but for its number, what the fill with its paint does
+abbrev pub Brushed : Canvas → Brush → Bool → Rect → Float → List ℕ → Done → List ℕ → Type 0
+Brushed canvas b ok rect r px =
+    Called (brushNumber canvas (length px) b ok) canvas canvas px (drawn (up (canvas .w)) (canvas .clip) (fillReach rect) (fillInk rect r (paintOf b)) px)

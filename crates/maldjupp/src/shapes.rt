@@ -1,0 +1,181 @@
+// The canvas calls that draw a shape. A paint comes as a brush.
+use crate::brush::Brush;
+use crate::brush::kind_number;
+use crate::brush::points_kind_number;
+use color::Color;
+use fill::fill_circle;
+use fill::fill_rect;
+use fill::fill_rrect;
+use geom::Pt;
+use geom::Rect;
+use gfx::Canvas;
+use gfx::Done;
+use line::line;
+use line::polyline;
+use poly::fill_poly;
+use shadow::shadow_rrect;
+use stroke::ring;
+use stroke::stroke_rrect;
+ghost use lib.ListN.{length};
+ghost use Rattle.mathf.specs.F32.{f0};
+ghost use Rattle.geom.specs.Int.{up};
+ghost use Rattle.geom.specs.Plane.{floatOk};
+ghost use Rattle.draw.specs.Draw.{drawn};
+ghost use Rattle.gfx.specs.Calls.{Called, shapeNumber};
+ghost use Rattle.gfx.specs.Points.{pointsNumber};
+ghost use Rattle.paints.specs.Paints.{circleRect};
+ghost use Rattle.fill.specs.Fill.{rrectFloats, rectFloats, circleFloats};
+ghost use Rattle.stroke.specs.Stroke.{strokeOk, strokeReach, strokeInk, ringOk};
+ghost use Rattle.line.specs.Lines.{lineReach, lineInk, lineOk};
+ghost use Rattle.line.specs.Polylines.{polylined};
+ghost use Rattle.poly.specs.Poly.{Filled};
+ghost use Rattle.shadow.specs.Shadow.{shadowOk, shadowReach, shadowInk};
+ghost use Rattle.maldjupp.specs.Brushes.{paintOf, Brushed, pointsBrushNumber};
+
+// A rectangle with round corners.
+#[no_mangle]
+pub extern "C" fn maldjupp_fill_rrect(
+    canvas: Canvas,
+    px: &mut [u32],
+    rect: Rect,
+    r: f32,
+    brush: Brush,
+) -> Done
+    ensures { λ d. ⌜ Brushed canvas brush (rrectFloats rect r (paintOf brush)) rect r (now (px .entry)) d (now (px .exit)) ⌝ }
+{
+    if brush.kind > 3 {
+        let number = kind_number(canvas, px.len());
+        return Done { number, canvas };
+    }
+    fill_rrect(canvas, px, rect, r, brush.paint())
+}
+
+// A rectangle.
+#[no_mangle]
+pub extern "C" fn maldjupp_fill_rect(
+    canvas: Canvas,
+    px: &mut [u32],
+    rect: Rect,
+    brush: Brush,
+) -> Done
+    ensures { λ d. ⌜ Brushed canvas brush (rectFloats rect (paintOf brush)) rect f0 (now (px .entry)) d (now (px .exit)) ⌝ }
+{
+    if brush.kind > 3 {
+        let number = kind_number(canvas, px.len());
+        return Done { number, canvas };
+    }
+    fill_rect(canvas, px, rect, brush.paint())
+}
+
+// A circle around cx and cy.
+#[no_mangle]
+pub extern "C" fn maldjupp_fill_circle(
+    canvas: Canvas,
+    px: &mut [u32],
+    cx: f32,
+    cy: f32,
+    r: f32,
+    brush: Brush,
+) -> Done
+    ensures { λ d. ⌜ Brushed canvas brush (circleFloats cx cy r (paintOf brush)) (circleRect cx cy r) r (now (px .entry)) d (now (px .exit)) ⌝ }
+{
+    if brush.kind > 3 {
+        let number = kind_number(canvas, px.len());
+        return Done { number, canvas };
+    }
+    fill_circle(canvas, px, cx, cy, r, brush.paint())
+}
+
+// The outline of a rectangle with round corners, inside its edge.
+#[no_mangle]
+pub extern "C" fn maldjupp_stroke_rrect(
+    canvas: Canvas,
+    px: &mut [u32],
+    rect: Rect,
+    r: f32,
+    width: f32,
+    color: Color,
+) -> Done
+    ensures { λ d. ⌜ Called (shapeNumber canvas (length (now (px .entry))) (strokeOk rect r width)) canvas canvas (now (px .entry)) (drawn (up (canvas .w)) (canvas .clip) (strokeReach rect color) (strokeInk rect r width color) (now (px .entry))) d (now (px .exit)) ⌝ }
+{
+    stroke_rrect(canvas, px, rect, r, width, color)
+}
+
+// The outline of a circle around cx and cy.
+#[no_mangle]
+pub extern "C" fn maldjupp_ring(
+    canvas: Canvas,
+    px: &mut [u32],
+    cx: f32,
+    cy: f32,
+    r: f32,
+    width: f32,
+    color: Color,
+) -> Done
+    ensures { λ d. ⌜ Called (shapeNumber canvas (length (now (px .entry))) (ringOk cx cy r width)) canvas canvas (now (px .entry)) (drawn (up (canvas .w)) (canvas .clip) (strokeReach (circleRect cx cy r) color) (strokeInk (circleRect cx cy r) r width color) (now (px .entry))) d (now (px .exit)) ⌝ }
+{
+    ring(canvas, px, cx, cy, r, width, color)
+}
+
+// A line with round ends.
+#[no_mangle]
+pub extern "C" fn maldjupp_line(
+    canvas: Canvas,
+    px: &mut [u32],
+    a: Pt,
+    b: Pt,
+    width: f32,
+    color: Color,
+) -> Done
+    ensures { λ r. ⌜ Called (shapeNumber canvas (length (now (px .entry))) (lineOk a b width)) canvas canvas (now (px .entry)) (drawn (up (canvas .w)) (canvas .clip) (lineReach a b width) (lineInk a b width color) (now (px .entry))) r (now (px .exit)) ⌝ }
+{
+    line(canvas, px, a, b, width, color)
+}
+
+// Lines from point to point, one after the other. The points are coordinates x y x y.
+#[no_mangle]
+pub extern "C" fn maldjupp_polyline(
+    canvas: Canvas,
+    px: &mut [u32],
+    pts: &[f32],
+    width: f32,
+    color: Color,
+) -> Done
+    ensures { λ r. ⌜ Called (pointsNumber canvas (length (now (px .entry))) (now (pts .entry)) (floatOk width)) canvas canvas (now (px .entry)) (polylined (up (canvas .w)) (canvas .clip) (now (pts .entry)) width color (now (px .entry))) r (now (px .exit)) ⌝ }
+{
+    polyline(canvas, px, pts, width, color)
+}
+
+// A polygon, whose points are coordinates x y x y. The scratch words that it needs are left +0.
+#[no_mangle]
+pub extern "C" fn maldjupp_fill_poly(
+    canvas: Canvas,
+    px: &mut [u32],
+    pts: &[f32],
+    brush: Brush,
+    scratch: &mut [f32],
+) -> Done
+    ensures { λ r. ⌜ Filled (pointsBrushNumber canvas (length (now (px .entry))) (now (pts .entry)) brush (length (now (scratch .entry)))) canvas (now (px .entry)) (now (pts .entry)) (paintOf brush) (now (scratch .entry)) r (now (px .exit)) (now (scratch .exit)) ⌝ }
+{
+    if brush.kind > 3 {
+        let number = points_kind_number(canvas, px.len(), pts);
+        return Done { number, canvas };
+    }
+    fill_poly(canvas, px, pts, brush.paint(), scratch)
+}
+
+// The soft shadow of a rectangle with round corners.
+#[no_mangle]
+pub extern "C" fn maldjupp_shadow_rrect(
+    canvas: Canvas,
+    px: &mut [u32],
+    rect: Rect,
+    r: f32,
+    blur: f32,
+    color: Color,
+    skip: bool,
+) -> Done
+    ensures { λ d. ⌜ Called (shapeNumber canvas (length (now (px .entry))) (shadowOk rect r blur)) canvas canvas (now (px .entry)) (drawn (up (canvas .w)) (canvas .clip) (shadowReach rect blur color) (shadowInk rect r blur color skip) (now (px .entry))) d (now (px .exit)) ⌝ }
+{
+    shadow_rrect(canvas, px, rect, r, blur, color, skip)
+}
