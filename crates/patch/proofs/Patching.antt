@@ -4,36 +4,41 @@ use mathlib.Core.Path.{_≡_, refl, sym, ap, _∙_}
 use mathlib.Core.Bool.{Bool, true, false, cond, _&&_}
 use mathlib.Core.List.{List, [], _∷_}
 use mathlib.Core.Logic.{_⊎_, inl, inr}
-use borrow.Author.Tests.{eq-eqb, ne-eqb}
+use borrow.Author.Tests.{eq-eqb, ne-eqb, eqb-true}
 use lib.Dec.{eqb}
 use lib.Ieee.{Float}
 use lib.IntN.{pos}
 use lib.ListN.{length}
-use Rattle.geom.specs.Int.{up}
-use Rattle.geom.specs.Box.{boxOf, inside, meet, empty, noBox, hull, Holds, HoldsEach}
+use Rattle.geom.specs.Box.{inside, empty, noBox, hull, HoldsEach}
 use Rattle.geom.specs.declared.IRect.{IRect}
-use Rattle.geom.proofs.Bools.{split}
+use Rattle.geom.proofs.Bools.{split, and-left}
 use Rattle.geom.proofs.Boxes.{Within, edges, meet-left, hull-least}
 use Rattle.color.specs.Colours.{pixOf}
 use Rattle.draw.specs.Draw.{eachAt, onto, meets}
-use Rattle.draw.specs.Areas.{drawnIn, inArea, clipTo, AreaFits}
+use Rattle.draw.specs.declared.Area.{Area}
+use Rattle.draw.specs.Areas.{drawnIn, clipTo}
 use Rattle.draw.proofs.Clips.{in-clip}
 use Rattle.gfx.specs.State.{clipOk}
 use Rattle.gfx.proofs.Fits.{canvas-fits}
 use Rattle.gfx.proofs.Valid.{clip-of}
 use Rattle.poly.specs.Poly.{cleared}
-use Rattle.sheet.specs.Check.{widthOf, heightOf, countOf, verdict, sheetCheck}
+use Rattle.sheet.specs.Check.{widthOf, heightOf, verdict, sheetCheck}
 use Rattle.items.specs.Items.{groundOf}
 use Rattle.items.specs.Format.{kind, sheetOf, reading, format, zeroWord}
+use Rattle.redraw.specs.declared.Answer.{Answer}
 use Rattle.redraw.specs.Drawing.{groundIn}
 use Rattle.redraw.specs.Sheet as redraw
-use Rattle.redraw.specs.Sheet.{Reading, read, Change, other, shapes, reaches, few, canvas, sameHeader, Outcome, refuses, draws, lent, patchBy, patchOf, patching, pixels}
+use Rattle.redraw.specs.Sheet.{Reading, read, Change, other, shapes, reaches, few, canvas, sameHeader, refuses, draws, lent, patchOf, patching, answer, pixels}
 use Rattle.redraw.proofs.Drawn.{length-each}
 use Rattle.compare.specs.Compare.{found, changeNumber, changeBox}
 use Rattle.compare.proofs.Changes.{patch-by}
 use Rattle.paint.specs.Paint.{stateIn, needIn, lentNumber}
 use Rattle.paint.proofs.Painting.{reads-accepted, state-sound, items-px, items-scratch, lent-outcome, lent-draws}
 use Rattle.patch.specs.Patch.{drawnBox, BoxFits}
+
+pub same-width : (old new : List ℕ) → sameHeader (sheetOf old) (sheetOf new) ≡ true → widthOf old ≡ widthOf new
+unfolding sameHeader
+same-width old new e = eqb-true (widthOf old) (widthOf new) (and-left (eqb (widthOf old) (widthOf new)) _ (and-left _ _ e))
 
 -- ---- the outcome
 
@@ -65,6 +70,17 @@ module _ (old new : List ℕ) (p : sheetCheck old ≡ verdict 0 0) (q : sheetChe
 
       pub drawn-new : lentNumber new n words ≡ 0 → patching format old new n words ≡ draws (sheetOf new) box
       drawn-new k = by-change ∙ rw (eq-eqb _ 0 z) (lent-draws new n words box k)
+
+-- an answer with number 0 is that of what was drawn where its box is the one drawn in
+pub reports : (s : redraw.Sheet (List ℕ)) (b : IRect) (a : Answer) → a .number ≡ 0 → a .item ≡ 0 → a .area ≡ b → a ≡ answer (draws s b)
+unfolding answer
+reports s b a n k e = ap (told (a .number) (a .item)) e ∙ rest
+  where
+    told : ℕ → ℕ → IRect → Answer
+    told number item area = record { number = number; item = item; area = area }
+
+    rest : told (a .number) (a .item) b ≡ told 0 0 b
+    rest = rw (n, k)
 
 -- ---- the box
 
@@ -109,11 +125,16 @@ twice : (b : IRect) (x y : ℕ) → meets b b x y ≡ inside b (pos x) (pos y)
 unfolding meets
 twice b x y = both-same (inside b (pos x) (pos y))
 
-pub ground-is : (w : ℕ) (b : IRect) (v : ℕ) (px : List ℕ) → drawnIn w (clipTo b b) (λ _ _ _. v) px ≡ groundIn w b v px
+ground-is : (w : ℕ) (b : IRect) (v : ℕ) (px : List ℕ) → drawnIn w (clipTo b b) (λ _ _ _. v) px ≡ groundIn w b v px
 unfolding groundIn drawnIn onto
 ground-is w b v px =
     each-same _ _ 0 px
     (λ j p. ap (λ (t : Bool). cond t v p) (sym (in-clip b b (j % w) (j / w)) ∙ twice b (j % w) (j / w)))
+
+-- a box is grounded where its pixels, in rows of the width, are set to the ground
+pub grounds : {pitch : ℕ} {bb : Area} {ink : ℕ} (w : ℕ) (b : IRect) (v : ℕ) (px : List ℕ) → pitch ≡ w → bb ≡ clipTo b b → ink ≡ v
+    → drawnIn pitch bb (λ _ _ _. ink) px ≡ groundIn w b v px
+grounds w b v px e f g = simp (e, f, g) (ground-is w b v px)
 
 module _ (s : List ℕ) (e : sheetCheck s ≡ verdict 0 0) (area : IRect) (ok : clipOk (pos (widthOf s)) (pos (heightOf s)) area ≡ true)
     (px : List ℕ) (count : length px ≡ widthOf s * heightOf s) where

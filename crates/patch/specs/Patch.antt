@@ -4,7 +4,6 @@ use mathlib.Core.List.{List}
 use mathlib.Core.Path.{_≡_}
 use lib.Ieee.{Float}
 use lib.IntN.{pos}
-use lib.ListN.{length}
 use Rattle.geom.specs.declared.IRect.{IRect}
 use Rattle.color.specs.Colours.{pixOf}
 use Rattle.draw.specs.Areas.{clipTo, AreaFits}

@@ -1,32 +1,31 @@
--- Item by item is pixel by pixel: to ground a box and draw the items one after the other, each on what the one before left, with the
--- box as first clip, is `paintedIn`. This is what a loop over the items leans on. Assumes nothing.
+-- Item by item is pixel by pixel: what a box set to the ground, and items drawn one after the other, each on what the one before left,
+-- leave in each pixel. This is what a loop over the items leans on. Assumes nothing.
 use mathlib.Core.Bool.{Bool, true, false, cond, _&&_}
 use mathlib.Core.List.{List, [], _∷_}
-use mathlib.Core.Path.{_≡_, refl, sym, ap, _∙_}
+use mathlib.Core.Path.{_≡_, refl, ap, _∙_}
 use Prim.Native.Nat.{ℕ, _/_, _%_, _<_}
 use native.Mathlib.Nat.{zero-add}
 use lib.IntN.{pos}
 use lib.ListN.{length, getD}
-use lib.Seq.{ext-getD}
 use Rattle.geom.specs.declared.IRect.{IRect}
 use Rattle.geom.specs.Box.{inside}
-use Rattle.redraw.specs.Drawing.{Item, push, pop, shape, Clips, only, popped, after, withStep, steps, Kind, meets, inked, pixel, pixelOf, wordIn, paintedIn, shapeOn, itemOn, itemsOn, groundIn}
+use Rattle.redraw.specs.Drawing.{Item, push, pop, shape, Clips, popped, after, withStep, steps, Kind, meets, inked, pixel, shapeOn, itemOn, itemsOn, groundIn}
 use Rattle.draw.specs.Draw as Draw
 use Rattle.draw.proofs.Clips as Clips
 use Rattle.geom.proofs.Boxes.{in-meet}
-use Rattle.redraw.proofs.Drawn.{length-each, getD-each, length-drawn, word-drawn}
+use Rattle.redraw.proofs.Drawn.{length-each, getD-each}
 
 -- ---- a pixel outside the first clip stays
 
 module _ (K : Kind) (x y : ℕ) where
   -- no saved clip has the pixel
-  data Dark : List IRect → Type 0 where
+  pub data Dark : List IRect → Type 0 where
     none : Dark []
     more : {c : IRect} {s : List IRect} → inside c (pos x) (pos y) ≡ false → Dark s → Dark (c ∷ s)
 
-  record Out (c : Clips) : Type 0 where
-    clips : inside (c .clip) (pos x) (pos y) ≡ false
-    saves : Dark (c .saved)
+  pub record Out (c : Clips) : Type 0 where
+    pub clips : inside (c .clip) (pos x) (pos y) ≡ false
+    pub saves : Dark (c .saved)
 
   out-popped : (c : IRect) {s : List IRect} → inside c (pos x) (pos y) ≡ false → Dark s → Out (popped c s)
   unfolding popped
@@ -39,7 +38,7 @@ module _ (K : Kind) (x y : ℕ) where
   out-after (pop s) c o = out-popped (c .clip) (o .clips) (o .saves)
   out-after (shape a) c o = o
 
-  out-stays : (items : List (Item (K .Shape))) (c : Clips) (p : ℕ) → Out c → pixel K (steps items c) x y p ≡ p
+  pub out-stays : (items : List (Item (K .Shape))) (c : Clips) (p : ℕ) → Out c → pixel K (steps items c) x y p ≡ p
   unfolding steps withStep after pixel meets inked
   out-stays [] c p o = refl
   out-stays (push s b ∷ r) c p o = out-stays r _ p (out-after (push s b) c o)
@@ -47,6 +46,18 @@ module _ (K : Kind) (x y : ℕ) where
   out-stays (shape a ∷ r) c p o =
       ap (λ (t : Bool). pixel K (steps r c) x y (inked K (t && inside (K .reach a) (pos x) (pos y)) a x y p)) (o .clips)
       ∙ out-stays r c p o
+
+-- ---- a box set to the ground
+
+module _ (pitch : ℕ) (box : IRect) (ground : ℕ) (px : List ℕ) where
+  pub length-ground : length (groundIn pitch box ground px) ≡ length px
+  unfolding groundIn
+  length-ground = length-each _ 0 px
+
+  pub word-ground : (i : ℕ) → i < length px
+      → getD (groundIn pitch box ground px) i 0 ≡ cond (inside box (pos (i % pitch)) (pos (i / pitch))) ground (getD px i 0)
+  unfolding groundIn
+  word-ground i h = getD-each _ 0 px i h ∙ rw zero-add
 
 -- ---- the items, one after the other
 
@@ -83,40 +94,3 @@ module _ (K : Kind) (pitch : ℕ) where
   word-items (shape a ∷ r) c px i h =
       word-items r c (shapeOn K pitch (c .clip) a px) i (rw length-shape h)
       ∙ ap (λ (p : ℕ). pixel K (steps r c) (i % pitch) (i / pitch) p) (word-shape (c .clip) a px i h)
-
-  module _ (box : IRect) (ground : ℕ) (items : List (Item (K .Shape))) (px : List ℕ) where
-    length-ground : length (groundIn pitch box ground px) ≡ length px
-    unfolding groundIn
-    length-ground = length-each _ 0 px
-
-    word-ground : (i : ℕ) → i < length px
-        → getD (groundIn pitch box ground px) i 0 ≡ cond (inside box (pos (i % pitch)) (pos (i / pitch))) ground (getD px i 0)
-    unfolding groundIn
-    word-ground i h = getD-each _ 0 px i h ∙ rw zero-add
-
-    -- the pixel drawn on the ground in the box, and on itself outside
-    word-first : (i : ℕ) (p : ℕ)
-        → pixel K (steps items (only box)) (i % pitch) (i / pitch) (cond (inside box (pos (i % pitch)) (pos (i / pitch))) ground p)
-        ≡ wordIn K (inside box (pos (i % pitch)) (pos (i / pitch))) items box ground (i % pitch) (i / pitch) p
-    unfolding wordIn pixelOf
-    word-first i p = go (inside box (pos (i % pitch)) (pos (i / pitch))) refl
-      where
-        go : (t : Bool) → inside box (pos (i % pitch)) (pos (i / pitch)) ≡ t
-            → pixel K (steps items (only box)) (i % pitch) (i / pitch) (cond t ground p) ≡ wordIn K t items box ground (i % pitch) (i / pitch) p
-        go true e = refl
-        go false e = out-stays K (i % pitch) (i / pitch) items (only box) p (record { clips = e; saves = none })
-
-    -- a box grounded, and the items drawn with the box as first clip
-    pub items-drawn : itemsOn K pitch items (only box) (groundIn pitch box ground px) ≡ paintedIn K pitch box ground items px
-    items-drawn =
-        ext-getD 0 _ _
-        (length-items items (only box) (groundIn pitch box ground px) ∙ length-ground ∙ sym (length-drawn K pitch box ground items px))
-        (λ i h. same-word i (rw (length-items, length-ground) at h))
-      where
-        same-word : (i : ℕ) → i < length px
-            → getD (itemsOn K pitch items (only box) (groundIn pitch box ground px)) i 0 ≡ getD (paintedIn K pitch box ground items px) i 0
-        same-word i h =
-            word-items items (only box) (groundIn pitch box ground px) i (rw length-ground h)
-            ∙ ap (λ (p : ℕ). pixel K (steps items (only box)) (i % pitch) (i / pitch) p) (word-ground i h)
-            ∙ word-first i (getD px i 0)
-            ∙ sym (word-drawn K pitch box ground items px i h)

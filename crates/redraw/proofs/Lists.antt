@@ -15,13 +15,13 @@ use Rattle.redraw.specs.declared.Answer.{Answer}
 use Rattle.geom.specs.declared.IRect.{IRect}
 use Rattle.geom.proofs.Int.{orderZ}
 use Rattle.geom.specs.Box.{inside, hull}
-use Rattle.redraw.specs.Drawing.{Kind, only, pixelOf, paintedIn}
+use Rattle.redraw.specs.Drawing.{Kind, only, pixelOf, paintedIn, groundIn}
 use Rattle.redraw.specs.Sheet.{Format, Lawful, Sheet, Reading, read, refused, Change, other, shapes, change, reaches, Outcome, refuses, draws, few, tooMany, canvas, sameHeader, lent, paintOf, patchBy, patchOf, painting, patching, refusal, answer, pixels, cleared, accepted, fresh}
 use Rattle.redraw.specs.Calls.{Shown, Call, Painted, Patched, model, keptAfter, Follow, Confined, Right, Always}
 use Rattle.geom.proofs.Bools.{and-left, and-right}
 use Rattle.geom.proofs.Boxes.{inside-of, hull-smallest}
-use Rattle.redraw.proofs.Drawn.{Shows, painted, redrawn, outside-kept, edited, length-drawn}
-use Rattle.redraw.proofs.Items.{length-items, word-items, items-drawn}
+use Rattle.redraw.proofs.Drawn.{Shows, painted, redrawn, outside-kept, inside-drawn, edited, length-drawn}
+use Rattle.redraw.proofs.Items.{none, out-stays, length-ground, word-ground, length-items, word-items}
 
 -- ---- a fresh painting, word by word
 
@@ -166,12 +166,48 @@ unfolding pixels accepted
 refused-px K (refuses n k) px e = refl
 refused-px K (draws s box) px e = absurd (false≢true (sym e))
 
+-- ---- what an accepted call leaves in px: its length, and each of its pixels
+
+module _ (K : Kind) (s : Sheet (K .Shape)) (box : IRect) (px : List ℕ) where
+  left-length : (n : ℕ) → length px ≡ n → length (pixels K (draws s box) px) ≡ n
+  unfolding pixels
+  left-length n e = simp (length-items, length-ground, e)
+
+  -- a pixel of value v: outside the box it stays, inside it is that of the items drawn on the ground
+  module _ (i : ℕ) (h : i < length px) (v : ℕ) (e : getD px i 0 ≡ v) where
+    grounded : (b : IRect) → i < length (groundIn (s .w) b (s .ground) px)
+    grounded b = rw length-ground h
+
+    left-outside : inside box (pos (i % s .w)) (pos (i / s .w)) ≡ false → getD (pixels K (draws s box) px) i 0 ≡ v
+    unfolding pixels
+    left-outside o =
+        let stays = out-stays K (i % s .w) (i / s .w) (s .items) (only box) v (record { clips = o; saves = none }) in
+        let g = grounded in
+        simp (word-items, word-ground, o, e, stays)
+
+    left-inside : inside box (pos (i % s .w)) (pos (i / s .w)) ≡ true
+        → getD (pixels K (draws s box) px) i 0 ≡ pixelOf K (s .items) box (s .ground) (i % s .w) (i / s .w)
+    unfolding pixels pixelOf
+    left-inside o =
+        let g = grounded in
+        simp (word-items, word-ground, o, e)
+
+  pub pixels-drawn : pixels K (draws s box) px ≡ paintedIn K (s .w) box (s .ground) (s .items) px
+  pixels-drawn =
+      ext-getD 0 _ _ (left-length _ refl ∙ sym (length-drawn K (s .w) box (s .ground) (s .items) px))
+      (λ i k. same-word i (rw (left-length _ refl) at k) (inside box (pos (i % s .w)) (pos (i / s .w))) refl)
+    where
+      same-word : (i : ℕ) → i < length px → (t : Bool) → inside box (pos (i % s .w)) (pos (i / s .w)) ≡ t
+          → getD (pixels K (draws s box) px) i 0 ≡ getD (paintedIn K (s .w) box (s .ground) (s .items) px) i 0
+      same-word i h true o = left-inside i h _ refl o ∙ sym (inside-drawn K (s .w) box (s .ground) (s .items) px i h o)
+      same-word i h false o = left-outside i h _ refl o ∙ sym (outside-kept K (s .w) box (s .ground) (s .items) px i h o)
+
 -- ---- lengths are kept
 
 pub length-pixels : (K : Kind) (o : Outcome (K .Shape)) (px : List ℕ) → length (pixels K o px) ≡ length px
 unfolding pixels
 length-pixels K (refuses n k) px = refl
-length-pixels K (draws s box) px = ap length (items-drawn K (s .w) box (s .ground) (s .items) px) ∙ length-drawn K (s .w) box (s .ground) (s .items) px
+length-pixels K (draws s box) px = left-length K s box px _ refl
 
 module _ {Word : Type 0} (zeroWord : Word) (F : Format) where
   pub length-cleared : (o : Outcome (F .kind .Shape)) (scratch : List Word)
@@ -268,13 +304,12 @@ module _ {Word : Type 0} (zeroWord : Word) (F : Format) (law : Lawful F) where
   pub shown-first : (sheet px : List ℕ) (scratch : List Word) (a : Answer) (px′ : List ℕ) (scratch′ : List Word)
       → Painted zeroWord F sheet px scratch a px′ scratch′
       → accepted (painting F sheet (length px) (length scratch)) ≡ true → Shown F sheet px′
-  unfolding pixels
   shown-first sheet px scratch a px′ scratch′ c e =
       let p = paint-accepted F sheet (length px) (length scratch) e in
       let s = p .held in
       let d : px′ ≡ paintedIn (F .kind) (s .w) (canvas s) (s .ground) (s .items) px =
       c .paints ∙ ap (λ (o : Outcome (F .kind .Shape)). pixels (F .kind) o px) (p .is)
-      ∙ items-drawn (F .kind) (s .w) (canvas s) (s .ground) (s .items) px in
+      ∙ pixels-drawn (F .kind) s (canvas s) px in
       record {
         held = s;
         reads = p .reads;
@@ -287,10 +322,9 @@ module _ {Word : Type 0} (zeroWord : Word) (F : Format) (law : Lawful F) where
     -- what an accepted call left in px
     drew : (p : Patches F kept (c .sheet) (length px) (length (c .scratch)))
         → c .px-left ≡ paintedIn (F .kind) (p .to .w) (hull (canvas (p .to)) (reaches (F .kind .reach) (p .pairs))) (p .to .ground) (p .to .items) px
-    unfolding pixels
     drew p =
         did .paints ∙ ap (λ (o : Outcome (F .kind .Shape)). pixels (F .kind) o px) (p .is)
-        ∙ items-drawn (F .kind) (p .to .w) _ (p .to .ground) (p .to .items) px
+        ∙ pixels-drawn (F .kind) (p .to) _ px
 
     area-is : (p : Patches F kept (c .sheet) (length px) (length (c .scratch)))
         → c .answered .area ≡ hull (canvas (p .to)) (reaches (F .kind .reach) (p .pairs))

@@ -17,8 +17,7 @@ use Rattle.redraw.specs.Drawing.{Kind, groundIn}
 use Rattle.redraw.specs.Calls.{Does}
 use Rattle.geom.proofs.Boxes.{in-noBox}
 use Rattle.redraw.proofs.Drawn.{length-each, getD-each, length-drawn, outside-kept}
-use Rattle.redraw.proofs.Items.{items-drawn}
-use Rattle.redraw.proofs.Lists.{on-canvas}
+use Rattle.redraw.proofs.Lists.{on-canvas, pixels-drawn}
 
 module _ (F : Format) (s : Sheet (F .kind .Shape)) (pl sl : ℕ) (box : IRect) where
   lent-8 : (pl ≡ s .w * s .h → ⊥) → lent F s pl sl box ≡ refuses 8 0
@@ -133,8 +132,7 @@ ground-all s px n =
 
 -- a patch with no box leaves px
 pub drawn-none : (K : Kind) (s : Sheet (K .Shape)) (px : List ℕ) → pixels K (draws s noBox) px ≡ px
-unfolding pixels
 drawn-none K s px =
-    items-drawn K (s .w) noBox (s .ground) (s .items) px
+    pixels-drawn K s noBox px
     ∙ ext-getD 0 _ _ (length-drawn K (s .w) noBox (s .ground) (s .items) px)
     (λ i h. outside-kept K (s .w) noBox (s .ground) (s .items) px i (rw length-drawn at h) (in-noBox (pos (i % s .w)) (pos (i / s .w))))

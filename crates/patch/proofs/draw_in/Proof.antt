@@ -1,11 +1,14 @@
 -- `patch::draw_in` meets its contract. Assumes nothing.
 use mathlib.Core.Path.{_≡_, ap, _∙_}
 use Rattle.color.specs.Colours.{pixOf}
+use lib.IntN.{pos}
 use Rattle.draw.specs.Areas.{clipTo}
-use Rattle.sheet.specs.Check.{widthOf}
+use Rattle.sheet.specs.Check.{widthOf, heightOf}
 use Rattle.items.specs.Items.{groundOf}
+use Rattle.redraw.specs.Drawing.{groundIn}
+use Rattle.paint.specs.Paint.{stateIn}
 use Rattle.patch.specs.Patch.{drawnBox}
-use Rattle.patch.proofs.Patching.{ground-is}
+use Rattle.patch.proofs.Patching.{grounds}
 use borrow.Author.Needs.{needs}
 use Rattle.patch.proofs.draw_in.Statement.{statement}
 use Rattle.patch.proofs.draw_in.Tie as tie
@@ -41,12 +44,13 @@ returns : tie.Need-returns
 unfolding drawnBox
 returns c =
     let a = c .before .before .before .before .before .before .before .before .before .before .before .before .before .before .before .before .before .before .before .args in
-    let w = c .before .before .before .before .before .before .before .before .before .before .before .before .before .before .before .u16-at .ensures .0 in
+    let s = a .s .now in
+    let w : c .before .before .before .before .before .before .before .before .before .before .before .before .before .before .before .u16-at .result ≡ widthOf s = c .before .before .before .before .before .before .before .before .before .before .before .before .before .before .before .u16-at .ensures .0 in
     let b : c .before .before .before .before .before .before .before .before .before .before .before .before .before .before .clipped .result ≡ clipTo (a .bounds) (a .bounds) = c .before .before .before .before .before .before .before .before .before .before .before .before .before .before .clipped .ensures in
-    let v = c .before .before .before .before .before .before .before .before .before .before .before .before .pix .ensures ∙ ap pixOf (c .before .before .before .before .before .before .before .before .before .before .before .before .before .ground .ensures) in
-    let g = c .before .before .before .before .before .before .before .before .before .before .ground-box .ensures in
-    let f = c .before .before .before .before .before .before .before .first-state .ensures in
-    rw (ground-is (widthOf (a .s .now)) (a .bounds) (pixOf (groundOf (a .s .now))) (a .px .now)) at (rw (f, w, b, v) at (rw (g) at (c .before .before .before .before .render .ensures)))
+    let v : c .before .before .before .before .before .before .before .before .before .before .before .before .pix .result ≡ pixOf (groundOf s) = c .before .before .before .before .before .before .before .before .before .before .before .before .pix .ensures ∙ ap pixOf (c .before .before .before .before .before .before .before .before .before .before .before .before .before .ground .ensures) in
+    let g : c .before .before .before .before .before .before .before .before .before .before .ground-box .last .0 ≡ groundIn (widthOf s) (a .bounds) (pixOf (groundOf s)) (a .px .now) = c .before .before .before .before .before .before .before .before .before .before .ground-box .ensures ∙ grounds (widthOf s) (a .bounds) (pixOf (groundOf s)) (a .px .now) w b v in
+    let f : c .before .before .before .before .before .before .before .first-state .result ≡ stateIn (pos (widthOf s)) (pos (heightOf s)) (a .bounds) = c .before .before .before .before .before .before .before .first-state .ensures in
+    rw (g, f) at (c .before .before .before .before .render .ensures)
 
 pub draw-in-spec : {M : Type 1} → statement M
 draw-in-spec =

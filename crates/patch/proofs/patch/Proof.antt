@@ -1,5 +1,5 @@
 -- `patch::patch` meets its contract. Each return by its law. Assumes nothing.
-use mathlib.Core.Path.{_≡_, sym, ap, _∙_}
+use mathlib.Core.Path.{sym, ap, _∙_}
 use Rattle.sheet.specs.declared.check.Verdict.{Verdict}
 use Rattle.items.specs.Format.{format, zeroWord}
 use Rattle.redraw.proofs.Rules.{patch-old-refused, patch-new-refused, does-refused}

@@ -1,12 +1,15 @@
 -- `patch::patch_read` meets its contract. Each return by its law. Assumes nothing.
 use mathlib.Core.Path.{_≡_, refl, sym, ap, _∙_}
 use borrow.Author.Tests.{not-true, not-false}
-use Rattle.items.specs.Format.{format, zeroWord}
-use Rattle.redraw.specs.Sheet.{answer}
+use Rattle.items.specs.Format.{sheetOf, format, zeroWord}
+use Rattle.geom.specs.declared.IRect.{IRect}
+use Rattle.redraw.specs.Sheet.{canvas, draws}
 use Rattle.redraw.proofs.Rules.{does-refused, does-drawn}
+use Rattle.compare.specs.Compare.{found, changeBox}
 use Rattle.compare.specs.declared.Difference.{Difference}
 use Rattle.paint.proofs.Painting.{lent-accepted}
-use Rattle.patch.proofs.Patching.{other-header, not-allowed, not-lent, drawn-new, box-clip, box-fits, patched-px, patched-scratch}
+use Rattle.patch.specs.Patch.{drawnBox}
+use Rattle.patch.proofs.Patching.{same-width, other-header, not-allowed, not-lent, drawn-new, reports, box-clip, box-fits, patched-px, patched-scratch}
 use borrow.Author.Needs.{needs}
 use Rattle.patch.proofs.patch_read.Statement.{statement}
 use Rattle.patch.proofs.patch_read.Tie as tie
@@ -55,12 +58,15 @@ returns-3 c =
     (sym d ∙ c .before .before .before .if2 .left) (λ z. c .before .if3 .taken (l ∙ z)))
     (c .refusal3 .ensures ∙ rw l)
 
+-- the box lies within px, in rows of either sheet's width
 draw-in-requires : tie.Need-draw-in-requires
 draw-in-requires c κs =
     let a = c .before .before .before .before .before .before .before .before .before .before .before .before .before in
+    let h = sym (c .before .before .before .before .before .before .before .before .same-header .ensures) ∙ not-false _ (c .before .before .before .before .before .before .before .if1 .left) in
     let e = ap (λ (r : Difference). r .area) (c .before .before .before .before .before .before .changed .ensures) in
     let z = sym (c .before .before .before .before .lent-number .ensures) ∙ c .before .before .before .if3 .left in
-    rw (e) (box-fits (a .args .new .now) (a .pre .second) _ (box-clip (a .args .old .now) (a .args .new .now)) (a .args .px .now) (lent-accepted (a .args .new .now) _ _ z .0))
+    simp (e, same-width (a .args .old .now) (a .args .new .now) h)
+    (box-fits (a .args .new .now) (a .pre .second) _ (box-clip (a .args .old .now) (a .args .new .now)) (a .args .px .now) (lent-accepted (a .args .new .now) _ _ z .0))
 
 same-length : tie.Need-same-length
 same-length c = search needs
@@ -69,21 +75,26 @@ same-length-2 : tie.Need-same-length-2
 same-length-2 c = search needs
 
 returns-4 : tie.Need-returns-4
-unfolding answer
 returns-4 c =
     let a = c .before .before .before .before .before .before .before .before .before .before .before .before .before .before .before .before .before .before in
-    let e = ap (λ (r : Difference). r .area) (c .before .before .before .before .before .before .before .before .before .before .before .changed .ensures) in
+    let old = a .args .old .now in
+    let new = a .args .new .now in
+    let px = a .args .px .now in
+    let scratch = a .args .scratch .now in
+    let box = changeBox (canvas (sheetOf new)) (found old new) in
+    let h = sym (c .before .before .before .before .before .before .before .before .before .before .before .before .before .same-header .ensures) ∙ not-false _ (c .before .before .before .before .before .before .before .before .before .before .before .before .if1 .left) in
+    let e : c .before .before .before .before .before .before .before .before .before .before .before .changed .result .area ≡ box = ap (λ (r : Difference). r .area) (c .before .before .before .before .before .before .before .before .before .before .before .changed .ensures) in
     let d = ap (λ (r : Difference). r .number) (c .before .before .before .before .before .before .before .before .before .before .before .changed .ensures) in
     let z = sym (c .before .before .before .before .before .before .before .before .before .lent-number .ensures) ∙ c .before .before .before .before .before .before .before .before .if3 .left in
-    let l = lent-accepted (a .args .new .now) _ _ z in
-    let k = box-clip (a .args .old .now) (a .args .new .now) in
-    let r = rw e at (c .before .before .before .before .draw-in .ensures) in
-    rw e
-    (does-drawn zeroWord format (a .args .px .now) (a .args .scratch .now) _ _ _ _ _
-    (drawn-new (a .args .old .now) (a .args .new .now) (a .pre .first) (a .pre .second) _ _ (sym (c .before .before .before .before .before .before .before .before .before .before .before .before .before .same-header .ensures) ∙ not-false _ (c .before .before .before .before .before .before .before .before .before .before .before .before .if1 .left)) (sym d ∙ c .before .before .before .before .before .before .before .before .before .before .if2 .left) z)
-    refl
-    (r .paints ∙ patched-px (a .args .new .now) (a .pre .second) _ k (a .args .px .now) (l .0) (a .args .scratch .now) (l .1))
-    (r .clears ∙ patched-scratch (a .args .new .now) (a .pre .second) _ k (a .args .px .now) (l .0) (a .args .scratch .now) (l .1)))
+    let l = lent-accepted new _ _ z in
+    let k = box-clip old new in
+    let p : c .before .before .before .before .draw-in .last .1 .1 .0 ≡ drawnBox new box px scratch .px = c .before .before .before .before .draw-in .ensures .paints ∙ ap (λ (b : IRect). drawnBox new b px scratch .px) e in
+    let s : c .before .before .before .before .draw-in .last .1 .1 .1 .0 ≡ drawnBox new box px scratch .scratch = c .before .before .before .before .draw-in .ensures .clears ∙ ap (λ (b : IRect). drawnBox new b px scratch .scratch) e in
+    does-drawn zeroWord format px scratch _ (draws (sheetOf new) box) _ _ _
+    (drawn-new old new (a .pre .first) (a .pre .second) _ _ h (sym d ∙ c .before .before .before .before .before .before .before .before .before .before .if2 .left) z)
+    (reports (sheetOf new) box _ refl refl e)
+    (p ∙ patched-px new (a .pre .second) _ k px (l .0) scratch (l .1))
+    (s ∙ patched-scratch new (a .pre .second) _ k px (l .0) scratch (l .1))
 
 pub patch-read-spec : {M : Type 1} → statement M
 patch-read-spec =
