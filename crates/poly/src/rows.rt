@@ -17,7 +17,7 @@ ghost use Rattle.color.specs.Inks.{overC};
 ghost use Rattle.paints.specs.Paints.{paintAt, centreOf};
 ghost use Rattle.draw.specs.Areas.{drawnIn, area, clipTo, RowFits, AreaFits};
 ghost use Rattle.poly.specs.Poly.{runSum, offsetOf, coverOf, inkIn, reachOf};
-ghost use Rattle.poly.specs.Rooms.{Room, Near, Over, inkFrom, levelOf};
+ghost use Rattle.poly.specs.Rooms.{Room, Near, Over, inkFrom};
 ghost use Rattle.paints.specs.declared.Paint.the-variants.{Solid};
 
 // A signed area as a coverage, 0 to 255. Most of a box lies outside the polygon: there nothing is converted.
@@ -117,34 +117,7 @@ fn flat_row(
     }
 }
 
-// Whether a paint has one colour in a whole row.
-fn level(paint: Paint) -> bool
-    ensures { λ r. ⌜ r ≡ levelOf paint ⌝ }
-{
-    match paint {
-        Paint::Solid(_) => true,
-        Paint::VGrad {
-            y0: _,
-            y1: _,
-            c0: _,
-            c1: _,
-        } => true,
-        Paint::Linear {
-            p0: _,
-            p1: _,
-            c0: _,
-            c1: _,
-        } => false,
-        Paint::Radial {
-            c: _,
-            r: _,
-            c0: _,
-            c1: _,
-        } => false,
-    }
-}
-
-// The same, with the colour of a level paint taken once.
+// The same by the kind of the paint.
 fn sum_row(
     px: &mut [u32],
     acc: &[f32],
@@ -160,11 +133,9 @@ fn sum_row(
     requires { ⌜ ls + (skip + (x1 - x0)) ≤ length (now acc) ⌝ }
     ensures { λ _. ⌜ now (px .exit) ≡ drawnIn pitch (area x0 y x1 (y + 1)) (inkFrom (now (acc .entry)) ls skip x0 paint) (now (px .entry)) ⌝ }
 {
-    if level(paint) {
-        let c = paint.at(centre(x0 as u16), centre(y as u16));
-        flat_row(px, acc, pitch, x0, x1, y, ls, skip, c);
-    } else {
-        paint_row(px, acc, pitch, x0, x1, y, ls, skip, paint);
+    match paint {
+        Paint::Solid(c) => flat_row(px, acc, pitch, x0, x1, y, ls, skip, c),
+        _ => paint_row(px, acc, pitch, x0, x1, y, ls, skip, paint),
     }
 }
 
@@ -188,7 +159,8 @@ fn poly_row(
     let stride = g.bw + 2;
     let ls = offset(y, oy) * stride;
     let skip = offset(x0, ox);
-    sum_row(px, acc, pitch, x0, x1, y, ls, skip, paint);
+    let here = paint.in_row(centre(y as u16));
+    sum_row(px, acc, pitch, x0, x1, y, ls, skip, here);
 }
 
 // The rows of an area.
