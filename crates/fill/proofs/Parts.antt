@@ -83,11 +83,6 @@ pub same-paint : (rect : Rect) (r : Float) (y : ℕ) (here paint : Paint) → ((
 unfolding roundInk rimInk middleInk
 same-paint rect r y here paint e x p = rw (e (centreOf x))
 
-pub same-middle : (y : ℕ) (here paint : Paint) → ((x : Float) → paintAt here x (centreOf y) ≡ paintAt paint x (centreOf y))
-    → (x p : ℕ) → middleInk here x y p ≡ middleInk paint x y p
-unfolding middleInk
-same-middle y here paint e x p = rw (e (centreOf x))
-
 -- ---- the middle under one colour
 
 module _ (c : Color) (pitch y x0 x1 : ℕ) (px : List ℕ) where

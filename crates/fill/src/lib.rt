@@ -13,9 +13,7 @@ use gfx::Canvas;
 use gfx::Done;
 use paints::Edge;
 use paints::Paint;
-use paints::along_down;
 use paints::along_line;
-use paints::along_radius;
 use paints::centre;
 use paints::cov8;
 use paints::radius;
@@ -29,7 +27,7 @@ ghost use Rattle.mathf.specs.Convert.{toI32};
 ghost use Rattle.geom.specs.Int.{up};
 ghost use Rattle.draw.specs.Draw.{drawn};
 ghost use Rattle.draw.specs.Areas.{area, drawnIn, clipTo, RowFits, AreaFits};
-ghost use Rattle.paints.specs.declared.Paint.the-variants.{Solid, Linear, Radial};
+ghost use Rattle.paints.specs.declared.Paint.the-variants.{Solid, Linear};
 ghost use Rattle.paints.specs.Paints.{paintAt, centreOf};
 ghost use Rattle.paints.specs.Edges.{Sure};
 ghost use Rattle.fill.specs.Fill.{fillReach, edgeRow, cornerRow, coverOf, rimInk, middleInk, roundInk, fillInk};
@@ -270,25 +268,15 @@ fn line_span(
     }
 }
 
-// Columns of row y under a radial gradient.
-fn ray_span(
-    px: &mut [u32],
-    w: usize,
-    y: usize,
-    x0: usize,
-    x1: usize,
-    o: Pt,
-    r: f32,
-    c0: Color,
-    c1: Color,
-)
+// Columns of row y under a paint, which is asked at each pixel.
+fn paint_span(px: &mut [u32], w: usize, y: usize, x0: usize, x1: usize, paint: Paint)
     requires { ⌜ RowFits w y x0 x1 (length (now px)) ⌝ }
-    ensures { λ _. ⌜ now (px .exit) ≡ drawnIn w (area x0 y x1 (y + 1)) (middleInk (Radial o r c0 c1)) (now (px .entry)) ⌝ }
+    ensures { λ _. ⌜ now (px .exit) ≡ drawnIn w (area x0 y x1 (y + 1)) (middleInk paint) (now (px .entry)) ⌝ }
 {
     let row = y * w;
     let yc = centre(y as u16);
     for x in x0..x1 {
-        let c = c0.mix(c1, along_radius(o, r, centre(x as u16), yc));
+        let c = paint.at(centre(x as u16), yc);
         let i = row + x;
         px[i] = over(px[i], c, c.a as u32);
     }
@@ -315,12 +303,8 @@ fn middle_span(px: &mut [u32], w: usize, y: usize, x0: usize, x1: usize, paint: 
 {
     match paint {
         Paint::Solid(c) => solid_span(px, w, y, x0, x1, c),
-        Paint::VGrad { y0, y1, c0, c1 } => {
-            let c = c0.mix(c1, along_down(y0, y1, centre(y as u16)));
-            solid_span(px, w, y, x0, x1, c)
-        }
         Paint::Linear { p0, p1, c0, c1 } => line_span(px, w, y, x0, x1, p0, p1, c0, c1),
-        Paint::Radial { c, r, c0, c1 } => ray_span(px, w, y, x0, x1, c, r, c0, c1),
+        _ => paint_span(px, w, y, x0, x1, paint),
     }
 }
 

@@ -38,7 +38,7 @@ pub enum Paint {
 }
 
 // How far down a vertical gradient a row lies.
-pub fn along_down(y0: f32, y1: f32, y: f32) -> f32
+fn along_down(y0: f32, y1: f32, y: f32) -> f32
     ensures { λ t. ⌜ t ≡ alongDown y0 y1 y ⌝ }
 {
     (y - y0) / mathf::max(y1 - y0, 0.001)
@@ -54,7 +54,7 @@ pub fn along_line(p0: Pt, p1: Pt, x: f32, y: f32) -> f32
 }
 
 // How far from the centre of a radial gradient a point lies.
-pub fn along_radius(c: Pt, r: f32, x: f32, y: f32) -> f32
+fn along_radius(c: Pt, r: f32, x: f32, y: f32) -> f32
     ensures { λ t. ⌜ t ≡ alongRadius c r x y ⌝ }
 {
     let dx = x - c.x;

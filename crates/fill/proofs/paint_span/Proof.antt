@@ -1,19 +1,17 @@
--- `fill::ray_span` meets its contract. The columns before x are drawn. Assumes nothing.
+-- `fill::paint_span` meets its contract. The columns before x are drawn. Assumes nothing.
 use mathlib.Core.Path.{_∙_}
 use Prim.Native.Nat.{_-_}
 use native.Mathlib.Omega.{arith}
 use Rattle.draw.proofs.Loops.{InRow, row-start, row-next, row-end}
-use Rattle.paints.specs.Paints.{paintAt}
-use Rattle.paints.specs.declared.Paint.the-variants.{Radial}
 use Rattle.fill.specs.Fill.{middleInk}
-use Rattle.fill.proofs.ray_span.Statement.{statement}
-use Rattle.fill.proofs.ray_span.Tie as tie
+use Rattle.fill.proofs.paint_span.Statement.{statement}
+use Rattle.fill.proofs.paint_span.Tie as tie
 
 abbrev Inv-loop : tie.InvT-loop
-Inv-loop px₀ w y x0 x1 o r c0 c1 row yc x₀ px x = InRow w (middleInk (Radial o r c0 c1)) y x0 x1 px₀ px x
+Inv-loop px₀ w y x0 x1 paint row yc x₀ px x = InRow w (middleInk paint) y x0 x1 px₀ px x
 
 abbrev μ-loop : tie.MeasureT-loop
-μ-loop px₀ w y x0 x1 o r c0 c1 row yc x₀ px x = x1 - x
+μ-loop px₀ w y x0 x1 paint row yc x₀ px x = x1 - x
 
 mul-row : tie.Need-mul-row Inv-loop μ-loop
 mul-row c = omega arith
@@ -27,7 +25,7 @@ centre-requires c κs = omega arith
 loop-holds : tie.Need-loop-holds Inv-loop μ-loop
 loop-holds c =
     let args = c .before .before .args in
-    row-start _ (middleInk (Radial (args .o) (args .r) (args .c0) (args .c1))) _ _ _ _ (c .before .before .pre .order)
+    row-start _ (middleInk (args .paint)) _ _ _ _ (c .before .before .pre .order)
 
 cast-centre-2 : tie.Need-cast-centre-2 Inv-loop μ-loop
 cast-centre-2 c = omega arith
@@ -35,11 +33,8 @@ cast-centre-2 c = omega arith
 centre-requires-2 : tie.Need-centre-requires-2 Inv-loop μ-loop
 centre-requires-2 c κs = omega arith
 
-along-radius-requires : tie.Need-along-radius-requires Inv-loop μ-loop
-along-radius-requires c κs = omega arith
-
-mix-requires : tie.Need-mix-requires Inv-loop μ-loop
-mix-requires c κs = omega arith
+at-requires : tie.Need-at-requires Inv-loop μ-loop
+at-requires c κs = omega arith
 
 add-i : tie.Need-add-i Inv-loop μ-loop
 add-i c = omega arith
@@ -69,14 +64,13 @@ loop-less : tie.Need-loop-less Inv-loop μ-loop
 loop-less c = omega arith
 
 loop-again : tie.Need-loop-again Inv-loop μ-loop
-unfolding middleInk paintAt
+unfolding middleInk
 loop-again c =
-    let mix = c .before .before .before in
-    let at = mix .before in
+    let at = c .before .before .before in
     let turn = at .before .before in
     let loop = turn .before in
     row-next (loop .before .before .before .pre) (loop .loop .inv) (turn .loop-test .taken)
-    (c .over .ensures ∙ rw (mix .mix .ensures, at .along-radius .ensures, at .before .centre2 .ensures, loop .before .centre .ensures))
+    (c .over .ensures ∙ rw (at .at .ensures, at .before .centre2 .ensures, loop .before .centre .ensures))
 
 same-length : tie.Need-same-length Inv-loop μ-loop
 same-length c = omega arith
@@ -84,8 +78,8 @@ same-length c = omega arith
 returns : tie.Need-returns Inv-loop μ-loop
 returns c = row-end (c .before .loop .inv) (c .loop-test .left)
 
-pub ray-span-spec : {M : Type 1} → statement M
-ray-span-spec =
+pub paint-span-spec : {M : Type 1} → statement M
+paint-span-spec =
     tie.close
     (tie.spec
     Inv-loop
@@ -96,8 +90,7 @@ ray-span-spec =
     loop-holds
     cast-centre-2
     centre-requires-2
-    along-radius-requires
-    mix-requires
+    at-requires
     add-i
     mul-over
     slice-read-over
