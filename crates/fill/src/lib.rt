@@ -15,8 +15,8 @@ use paints::Edge;
 use paints::Paint;
 use paints::along_line;
 use paints::centre;
-use paints::cov8;
 use paints::radius;
+use paints::side_cover;
 ghost use mathlib.Core.Path.{_≡_};
 ghost use mathlib.Core.Bool.{Bool};
 ghost use Prim.Native.Nat.{_+_, _≤_, min, max};
@@ -169,7 +169,7 @@ fn level_of(rect: Rect, r: f32, y: usize) -> Level
     let qy = past(centre(y as u16), rect.cy(), rect.h * 0.5, r);
     Level {
         qy,
-        level: cov8(qy - r),
+        level: side_cover(qy - r),
     }
 }
 

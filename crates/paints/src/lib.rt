@@ -2,6 +2,7 @@
 pub mod edges;
 
 pub use crate::edges::Edge;
+pub use crate::edges::side_cover;
 use color::Color;
 use geom::Pt;
 use geom::Rect;
