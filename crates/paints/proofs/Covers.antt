@@ -23,7 +23,7 @@ use Rattle.mathf.specs.F32.{_+ᶠ_, _-ᶠ_, _*ᶠ_, _/ᶠ_, _≤ᶠ_, f0, f½}
 use Rattle.mathf.specs.Order.{clampOf}
 use Rattle.mathf.specs.Convert.{toU32}
 use Rattle.mathf.specs.Root.{sqrtOf}
-use Rattle.mathf.proofs.Compared.{AtMost, at-most, from-at-most, le-same, le-through, or-l, above-zero}
+use Rattle.mathf.proofs.Compared.{AtMost, from-at-most, le-same, le-through, or-l, above-zero}
 use Rattle.mathf.proofs.Monotone.{round-order, add-mono, sub-mono, mul-mono, sqrt-mono, unsigned-mono}
 use Rattle.mathf.proofs.Saturating.{passed}
 use Rattle.paints.specs.declared.edges.Edge.{Edge}

@@ -1,6 +1,5 @@
 -- `fill::filled` meets its contract. Assumes nothing.
-use mathlib.Core.Path.{_≡_, refl, sym, ap, _∙_}
-use lib.Ieee.{Float}
+use mathlib.Core.Path.{_≡_, sym, _∙_}
 use Rattle.geom.specs.Int.{up}
 use Rattle.geom.proofs.Signed.{kept}
 use Rattle.draw.specs.Areas.{clipTo}
@@ -20,6 +19,11 @@ pitch c = c .nat-of .ensures ∙ rw (kept (c .before .before .before .before .be
 clip : (c : tie.After-clipped) → c .clipped .result
     ≡ clipTo (fillReach (c .before .before .before .before .before .before .before .before .args .rect)) (c .before .before .before .before .before .before .before .before .args .canvas .clip)
 clip c = c .clipped .ensures ∙ rw (c .before .fill-reach .ensures)
+
+-- the corners have the radius that the sides allow
+cut : (c : tie.After-round-of) → c .round-of .result .edge .r
+    ≡ radiusOf (c .before .before .before .before .before .before .before .before .before .before .args .rect) (c .before .before .before .before .before .before .before .before .before .before .args .r)
+cut c = c .round-of .ensures .2 ∙ c .before .radius .ensures
 
 shape-number-requires : tie.Need-shape-number-requires
 shape-number-requires c κs = search needs
@@ -64,7 +68,7 @@ returns-2 c =
     let n = k .before .before .before in
     let test = n .before .before in
     let args = test .before .before .before .args in
-    rw (f .fill-box .ensures, pitch n, clip k, s .round-of .ensures .1, s .round-of .ensures .2, s .before .radius .ensures, ← (drawn-clip (up (args .canvas .w)) (args .canvas .clip) (fillReach (args .rect))))
+    rw (f .fill-box .ensures, pitch n, clip k, s .round-of .ensures .1, cut s, ← (drawn-clip (up (args .canvas .w)) (args .canvas .clip) (fillReach (args .rect))))
     (accepted-call (test .before .shape-number .ensures) (test .if1 .left))
 
 pub filled-spec : {M : Type 1} → statement M
