@@ -2,6 +2,7 @@
 --     cut-edge       an edge row has no middle
 --     cut-between    any other row has its middle between its ends
 --     parts-drawn    the three parts drawn are the row drawn
+--     same-paint     a paint that agrees in the row
 --     plain-drawn    a part of the middle under a colour of full alpha
 --     clear-drawn    the same under a colour of alpha 0
 -- Assumes nothing.
@@ -75,6 +76,12 @@ module _ (rect : Rect) (r : Float) (y x0 x1 : ℕ) where
       (λ x p l h. outside paint x p (k .is-middle x l (omega arith) ∙ within-below _ _ x h))
       (λ x p l h. inside paint x p (k .is-middle x (omega arith) (omega arith) ∙ within-in _ _ x l h))
       (λ x p l h. outside paint x p (k .is-middle x (omega arith) h ∙ within-above _ _ x l))
+
+-- a paint that agrees with another in the row draws the same
+pub same-paint : (rect : Rect) (r : Float) (y : ℕ) (here paint : Paint) → ((x : Float) → paintAt here x (centreOf y) ≡ paintAt paint x (centreOf y))
+    → (x p : ℕ) → roundInk rect r here x y p ≡ roundInk rect r paint x y p
+unfolding roundInk rimInk middleInk
+same-paint rect r y here paint e x p = rw (e (centreOf x))
 
 -- ---- the middle under one colour
 

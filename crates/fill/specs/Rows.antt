@@ -11,6 +11,7 @@ use Rattle.geom.specs.Int.{up}
 use Rattle.geom.specs.Plane.{cyOf}
 use Rattle.draw.specs.Areas.{within}
 use Rattle.paints.specs.Paints.{cov8Of}
+use Rattle.paints.specs.Edges.{Sure}
 use Rattle.fill.specs.declared.Ends.{Ends}
 use Rattle.fill.specs.declared.Round.{Round}
 use Rattle.fill.specs.declared.Level.{Level}
@@ -20,14 +21,11 @@ use Rattle.fill.specs.Fill.{leOf, rsOf, middle}
 unfoldable pub endsOf : Bool → Rect → Float → Ends
 endsOf corner rect r = record { le = up (toI32 (leOf corner rect r)); rs = up (toI32 (rsOf corner rect r)) }
 
--- a rectangle with corners of radius r and its ends, which are the same for all rows of a kind
-abbrev pub roundOf : Rect → Float → Round
-roundOf rect r = record { rect = rect; r = r; bent = endsOf true rect r; straight = endsOf false rect r }
-
--- its ends are those of its rows
+-- a rectangle's edge is sure, and its ends are those of its rows
 pub record Ready (s : Round) : Type 0 where
-  pub bent : s .bent ≡ endsOf true (s .rect) (s .r)
-  pub straight : s .straight ≡ endsOf false (s .rect) (s .r)
+  pub sure : Sure (s .edge .r) (s .edge)
+  pub bent : s .bent ≡ endsOf true (s .rect) (s .edge .r)
+  pub straight : s .straight ≡ endsOf false (s .rect) (s .edge .r)
 
 -- how far p is past the straight part of a side, from c to a corner of radius r and then h
 abbrev pub pastOf : Float → Float → Float → Float → Float

@@ -5,6 +5,7 @@ use color::over;
 use draw::Area;
 use draw::clipped;
 use geom::IRect;
+use geom::Pt;
 use geom::Rect;
 use geom::float_ok;
 use geom::nat_of;
@@ -12,10 +13,10 @@ use gfx::Canvas;
 use gfx::Done;
 use paints::Edge;
 use paints::Paint;
+use paints::along_line;
 use paints::centre;
-use paints::cov8;
 use paints::radius;
-use paints::rrect_sd;
+use paints::side_cover;
 ghost use mathlib.Core.Path.{_≡_};
 ghost use mathlib.Core.Bool.{Bool};
 ghost use Prim.Native.Nat.{_+_, _≤_, min, max};
@@ -26,13 +27,13 @@ ghost use Rattle.mathf.specs.Convert.{toI32};
 ghost use Rattle.geom.specs.Int.{up};
 ghost use Rattle.draw.specs.Draw.{drawn};
 ghost use Rattle.draw.specs.Areas.{area, drawnIn, clipTo, RowFits, AreaFits};
-ghost use Rattle.paints.specs.declared.Paint.the-variants.{Solid};
-ghost use Rattle.paints.specs.Paints.{paintAt};
+ghost use Rattle.paints.specs.declared.Paint.the-variants.{Solid, Linear};
+ghost use Rattle.paints.specs.Paints.{paintAt, centreOf};
 ghost use Rattle.paints.specs.Edges.{Sure};
 ghost use Rattle.fill.specs.Fill.{fillReach, edgeRow, cornerRow, coverOf, rimInk, middleInk, roundInk, fillInk};
 ghost use Rattle.fill.specs.Fill.{Filled, rrectFloats, rectFloats, circleFloats};
 ghost use Rattle.paints.specs.Paints.{circleRect};
-ghost use Rattle.fill.specs.Rows.{endsOf, roundOf, Ready, clampedOf, Cuts, pastOf, LevelOf};
+ghost use Rattle.fill.specs.Rows.{endsOf, Ready, clampedOf, Cuts, pastOf, LevelOf};
 
 // Columns of a row: where its left rim ends, and where its right rim starts.
 struct Ends {
@@ -40,10 +41,10 @@ struct Ends {
     rs: usize,
 }
 
-// A rectangle with corners of radius r, and the ends of its rows: beside a corner, and elsewhere.
+// A rectangle with round corners, their edge, and the ends of its rows: beside a corner, and elsewhere.
 struct Round {
     rect: Rect,
-    r: f32,
+    edge: Edge,
     bent: Ends,
     straight: Ends,
 }
@@ -93,15 +94,16 @@ fn row_ends(rect: Rect, r: f32, corner: bool) -> Ends
     Ends { le, rs }
 }
 
-// The ends are worked out once, for all rows.
+// The edge and the ends are worked out once, for all rows.
 fn round_of(rect: Rect, r: f32) -> Round
-    ensures { λ s. ⌜ s ≡ roundOf rect r ⌝ }
+    ensures { λ s. ⌜ Ready s × (s .rect ≡ rect) × (s .edge .r ≡ r) ⌝ }
 {
+    let edge = Edge::of(r);
     let bent = row_ends(rect, r, true);
     let straight = row_ends(rect, r, false);
     Round {
         rect,
-        r,
+        edge,
         bent,
         straight,
     }
@@ -134,24 +136,17 @@ fn clamped(e: Ends, x0: usize, x1: usize) -> Ends
 // Where row y is cut, between the columns x0 and x1: an edge row has no middle.
 fn cut_row(s: Round, y: usize, x0: usize, x1: usize) -> Ends
     requires { ⌜ (x0 ≤ x1) × (y ≤ 2048) × Ready s ⌝ }
-    ensures { λ c. ⌜ Cuts (s .rect) (s .r) y x0 x1 c ⌝ }
+    ensures { λ c. ⌜ Cuts (s .rect) (s .edge .r) y x0 x1 c ⌝ }
 {
     let rect = s.rect;
     let yc = centre(y as u16);
     if edge_row(rect, yc) {
         return Ends { le: x1, rs: x1 };
     }
-    if corner_row(rect, s.r, yc) {
+    if corner_row(rect, s.edge.r, yc) {
         return clamped(s.bent, x0, x1);
     }
     clamped(s.straight, x0, x1)
-}
-
-// The coverage of a point by its distance to the outline.
-fn cover(rect: Rect, r: f32, xc: f32, yc: f32) -> u32
-    ensures { λ n. ⌜ n ≡ coverOf rect r xc yc ⌝ }
-{
-    cov8(rrect_sd(xc, yc, rect.cx(), rect.cy(), rect.w * 0.5, rect.h * 0.5, r))
 }
 
 // How far p is past the straight part of a side, from c to a corner of radius r and then h.
@@ -167,19 +162,20 @@ struct Level {
     level: u32,
 }
 
-fn level_of(rect: Rect, r: f32, yc: f32) -> Level
-    ensures { λ l. ⌜ LevelOf rect r yc l ⌝ }
+fn level_of(rect: Rect, r: f32, y: usize) -> Level
+    requires { ⌜ y ≤ 2048 ⌝ }
+    ensures { λ l. ⌜ LevelOf rect r (centreOf y) l ⌝ }
 {
-    let qy = past(yc, rect.cy(), rect.h * 0.5, r);
+    let qy = past(centre(y as u16), rect.cy(), rect.h * 0.5, r);
     Level {
         qy,
-        level: cov8(qy - r),
+        level: side_cover(qy - r),
     }
 }
 
 // The coverage of a point of such a row, whose corners have the edge e.
 fn level_cover(rect: Rect, e: Edge, l: Level, xc: f32) -> u32
-    ensures { λ n. ⌜ ((r yc : Float) → Sure r e → LevelOf rect r yc l → n ≡ coverOf rect r xc yc) ⌝ }
+    ensures { λ n. ⌜ ((yc : Float) → Sure (e .r) e → LevelOf rect (e .r) yc l → n ≡ coverOf rect (e .r) xc yc) ⌝ }
 {
     let qx = past(xc, rect.cx(), rect.w * 0.5, e.r);
     e.beside(qx, l.qy, l.level)
@@ -195,52 +191,23 @@ fn colour_at(paint: Paint, xc: f32, yc: f32) -> Color
     }
 }
 
-// Columns of row y by coverage.
-fn rim_span(
+// Columns of row y by coverage: a root is taken only near the edge.
+fn rim(
     px: &mut [u32],
     w: usize,
     y: usize,
     x0: usize,
     x1: usize,
     rect: Rect,
-    r: f32,
+    e: Edge,
+    l: Level,
     paint: Paint,
 )
-    requires { ⌜ RowFits w y x0 x1 (length (now px)) ⌝ }
-    ensures { λ _. ⌜ now (px .exit) ≡ drawnIn w (area x0 y x1 (y + 1)) (rimInk rect r paint) (now (px .entry)) ⌝ }
+    requires { ⌜ RowFits w y x0 x1 (length (now px)) × Sure (e .r) e × LevelOf rect (e .r) (centreOf y) l ⌝ }
+    ensures { λ _. ⌜ now (px .exit) ≡ drawnIn w (area x0 y x1 (y + 1)) (rimInk rect (e .r) paint) (now (px .entry)) ⌝ }
 {
     let row = y * w;
     let yc = centre(y as u16);
-    for x in x0..x1 {
-        let xc = centre(x as u16);
-        let cv = cover(rect, r, xc, yc);
-        if cv == 0 {
-            continue;
-        }
-        let c = colour_at(paint, xc, yc);
-        let i = row + x;
-        px[i] = blend_c(px[i], c, cv);
-    }
-}
-
-// The same of many columns: what they share is worked out first, and a root is taken only near the edge.
-fn wide_span(
-    px: &mut [u32],
-    w: usize,
-    y: usize,
-    x0: usize,
-    x1: usize,
-    rect: Rect,
-    r: f32,
-    paint: Paint,
-)
-    requires { ⌜ RowFits w y x0 x1 (length (now px)) ⌝ }
-    ensures { λ _. ⌜ now (px .exit) ≡ drawnIn w (area x0 y x1 (y + 1)) (rimInk rect r paint) (now (px .entry)) ⌝ }
-{
-    let row = y * w;
-    let yc = centre(y as u16);
-    let e = Edge::of(r);
-    let l = level_of(rect, r, yc);
     for x in x0..x1 {
         let xc = centre(x as u16);
         let cv = level_cover(rect, e, l, xc);
@@ -250,18 +217,6 @@ fn wide_span(
         let c = colour_at(paint, xc, yc);
         let i = row + x;
         px[i] = blend_c(px[i], c, cv);
-    }
-}
-
-// A rim of row y.
-fn rim(px: &mut [u32], w: usize, y: usize, x0: usize, x1: usize, rect: Rect, r: f32, paint: Paint)
-    requires { ⌜ RowFits w y x0 x1 (length (now px)) ⌝ }
-    ensures { λ _. ⌜ now (px .exit) ≡ drawnIn w (area x0 y x1 (y + 1)) (rimInk rect r paint) (now (px .entry)) ⌝ }
-{
-    if x1 - x0 < 8 {
-        rim_span(px, w, y, x0, x1, rect, r, paint);
-    } else {
-        wide_span(px, w, y, x0, x1, rect, r, paint);
     }
 }
 
@@ -286,6 +241,30 @@ fn over_span(px: &mut [u32], w: usize, y: usize, x0: usize, x1: usize, c: Color)
     for x in x0..x1 {
         let i = row + x;
         px[i] = over(px[i], c, a);
+    }
+}
+
+// Columns of row y under a linear gradient.
+fn line_span(
+    px: &mut [u32],
+    w: usize,
+    y: usize,
+    x0: usize,
+    x1: usize,
+    p0: Pt,
+    p1: Pt,
+    c0: Color,
+    c1: Color,
+)
+    requires { ⌜ RowFits w y x0 x1 (length (now px)) ⌝ }
+    ensures { λ _. ⌜ now (px .exit) ≡ drawnIn w (area x0 y x1 (y + 1)) (middleInk (Linear p0 p1 c0 c1)) (now (px .entry)) ⌝ }
+{
+    let row = y * w;
+    let yc = centre(y as u16);
+    for x in x0..x1 {
+        let c = c0.mix(c1, along_line(p0, p1, centre(x as u16), yc));
+        let i = row + x;
+        px[i] = over(px[i], c, c.a as u32);
     }
 }
 
@@ -324,29 +303,40 @@ fn middle_span(px: &mut [u32], w: usize, y: usize, x0: usize, x1: usize, paint: 
 {
     match paint {
         Paint::Solid(c) => solid_span(px, w, y, x0, x1, c),
+        Paint::Linear { p0, p1, c0, c1 } => line_span(px, w, y, x0, x1, p0, p1, c0, c1),
         _ => paint_span(px, w, y, x0, x1, paint),
     }
 }
 
 // Row y between the columns x0 and x1: rim, middle, rim.
-fn fill_row(px: &mut [u32], w: usize, y: usize, x0: usize, x1: usize, s: Round, paint: Paint)
+fn row_parts(px: &mut [u32], w: usize, y: usize, x0: usize, x1: usize, s: Round, paint: Paint)
     requires { ⌜ RowFits w y x0 x1 (length (now px)) × Ready s ⌝ }
-    ensures { λ _. ⌜ now (px .exit) ≡ drawnIn w (area x0 y x1 (y + 1)) (roundInk (s .rect) (s .r) paint) (now (px .entry)) ⌝ }
+    ensures { λ _. ⌜ now (px .exit) ≡ drawnIn w (area x0 y x1 (y + 1)) (roundInk (s .rect) (s .edge .r) paint) (now (px .entry)) ⌝ }
 {
     let rect = s.rect;
-    let r = s.r;
+    let e = s.edge;
     let c = cut_row(s, y, x0, x1);
+    let l = level_of(rect, e.r, y);
     let lend = c.le;
     let rstart = c.rs;
-    rim(px, w, y, x0, lend, rect, r, paint);
+    rim(px, w, y, x0, lend, rect, e, l, paint);
     middle_span(px, w, y, lend, rstart, paint);
-    rim(px, w, y, rstart, x1, rect, r, paint);
+    rim(px, w, y, rstart, x1, rect, e, l, paint);
+}
+
+// The same by the paint as the row has it.
+fn fill_row(px: &mut [u32], w: usize, y: usize, x0: usize, x1: usize, s: Round, paint: Paint)
+    requires { ⌜ RowFits w y x0 x1 (length (now px)) × Ready s ⌝ }
+    ensures { λ _. ⌜ now (px .exit) ≡ drawnIn w (area x0 y x1 (y + 1)) (roundInk (s .rect) (s .edge .r) paint) (now (px .entry)) ⌝ }
+{
+    let here = paint.in_row(centre(y as u16));
+    row_parts(px, w, y, x0, x1, s, here);
 }
 
 // The rows of an area.
 fn fill_box(px: &mut [u32], w: usize, bb: Area, s: Round, paint: Paint)
     requires { ⌜ AreaFits w bb (length (now px)) × Ready s ⌝ }
-    ensures { λ _. ⌜ now (px .exit) ≡ drawnIn w bb (roundInk (s .rect) (s .r) paint) (now (px .entry)) ⌝ }
+    ensures { λ _. ⌜ now (px .exit) ≡ drawnIn w bb (roundInk (s .rect) (s .edge .r) paint) (now (px .entry)) ⌝ }
 {
     let x0 = bb.x0;
     let x1 = bb.x1;

@@ -1,5 +1,6 @@
 -- The coverage at an edge, by the squared distance: the root, the difference and the coverage keep the order, so one tested number speaks for all beyond it.
 --     none-from, full-upto      from half a pixel outside on the coverage is 0, up to half a pixel inside 255
+--     half-outside, half-inside    the same, as the code tests a distance
 --     sum-above, sum-below      what a sum with one number keeps of the order
 --     cover-none, cover-full    the coverage by the squared distance
 --     squares                   a sum of two squares is not below 0, or a NaN
@@ -22,7 +23,7 @@ use Rattle.mathf.specs.F32.{_+ᶠ_, _-ᶠ_, _*ᶠ_, _/ᶠ_, _≤ᶠ_, f0, f½}
 use Rattle.mathf.specs.Order.{clampOf}
 use Rattle.mathf.specs.Convert.{toU32}
 use Rattle.mathf.specs.Root.{sqrtOf}
-use Rattle.mathf.proofs.Compared.{AtMost, at-most, from-at-most, le-same, le-through, or-l, above-zero}
+use Rattle.mathf.proofs.Compared.{AtMost, from-at-most, le-same, le-through, or-l, above-zero}
 use Rattle.mathf.proofs.Monotone.{round-order, add-mono, sub-mono, mul-mono, sqrt-mono, unsigned-mono}
 use Rattle.mathf.proofs.Saturating.{passed}
 use Rattle.paints.specs.declared.edges.Edge.{Edge}
@@ -192,6 +193,15 @@ rest-high (fin s m e) h = subst (λ (x : Float). T (le x (sub binary32 z½ (fin 
 pub full-upto : (d : Float) → T (le d -z½) → cov8Of d ≡ 255
 unfolding cov8Of ofBits
 full-upto d h = let s = share-high (sub binary32 z½ d) (rest-high d h) in level-of z1 (clampOf (sub binary32 z½ d) z0 z1) tt full-finite (unfold le lt eq in tt) (s .0) (s .1) ∙ full-level
+
+-- as the code tests a distance
+pub half-outside : (d : Float) → (f½ ≤ᶠ d) ≡ true → 0 ≡ cov8Of d
+unfolding ofBits
+half-outside d h = sym (none-from d (passed h))
+
+pub half-inside : (d : Float) → (d ≤ᶠ neg f½) ≡ true → 255 ≡ cov8Of d
+unfolding ofBits neg
+half-inside d h = sym (full-upto d (passed h))
 
 -- ---- a sum with one number keeps the order, infinities and all: what lies beyond a finite number stays beyond it
 pub sum-above : (u : Bool) (p : ℕ) (q : ℤ) (x y w : Float) → T (le x y) → T (le (fin u p q) (add binary32 x w)) → T (le (fin u p q) (add binary32 y w))

@@ -2,6 +2,7 @@
 pub mod edges;
 
 pub use crate::edges::Edge;
+pub use crate::edges::side_cover;
 use color::Color;
 use geom::Pt;
 use geom::Rect;
@@ -9,6 +10,7 @@ use geom::float_ok;
 use geom::floats_ok;
 ghost use mathlib.Core.Path.{_≡_};
 ghost use mathlib.Core.Bool.{_&&_};
+ghost use lib.Ieee.{Float};
 ghost use Rattle.geom.specs.Plane.{floatOk, ptOk};
 ghost use Rattle.mathf.specs.F32.{_<ᶠ_, f0};
 ghost use Rattle.paints.specs.Paints.{alongDown, alongLine, alongRadius, paintAt, paintOk, centreOf, radiusOf, cornerSd, rrectSd, roundedOf, roundedSd, cov8Of};
@@ -44,7 +46,7 @@ fn along_down(y0: f32, y1: f32, y: f32) -> f32
 }
 
 // How far along a linear gradient a point lies.
-fn along_line(p0: Pt, p1: Pt, x: f32, y: f32) -> f32
+pub fn along_line(p0: Pt, p1: Pt, x: f32, y: f32) -> f32
     ensures { λ t. ⌜ t ≡ alongLine p0 p1 x y ⌝ }
 {
     let dx = p1.x - p0.x;
@@ -83,6 +85,16 @@ impl Paint {
             Paint::VGrad { y0, y1, c0, c1 } => c0.mix(c1, along_down(y0, y1, y)),
             Paint::Linear { p0, p1, c0, c1 } => c0.mix(c1, along_line(p0, p1, x, y)),
             Paint::Radial { c, r, c0, c1 } => c0.mix(c1, along_radius(c, r, x, y)),
+        }
+    }
+
+    // The paint as the points of a row have it: a vertical gradient has one colour there.
+    pub fn in_row(self, y: f32) -> Paint
+        ensures { λ p. ⌜ ((x : Float) → paintAt p x y ≡ paintAt self x y) ⌝ }
+    {
+        match self {
+            Paint::VGrad { y0, y1, c0, c1 } => Paint::Solid(c0.mix(c1, along_down(y0, y1, y))),
+            _ => self,
         }
     }
 

@@ -1,6 +1,6 @@
 -- Columns and rows of the canvas in the box: where they lie in it, and that those which a clip lets through lie in it. Assumes nothing.
-use mathlib.Core.Path.{_≡_, refl, sym, ap, subst, _∙_}
-use mathlib.Core.Bool.{true, cond, true≢false}
+use mathlib.Core.Path.{_≡_, sym, ap, subst, _∙_}
+use mathlib.Core.Bool.{true, cond}
 use mathlib.Core.List.{List}
 use Prim.Native.Nat.{ℕ, zero, suc, _+_, _-_, _*_, _<_, _≤_, min}
 use native.Mathlib.Omega.{arith}
@@ -23,9 +23,8 @@ use Rattle.draw.specs.Areas.{area, areaOf, clipTo}
 use Rattle.draw.specs.declared.Area.{Area}
 use Rattle.paints.specs.Paints.{paintAt, centreOf}
 use Rattle.paints.specs.declared.Paint.{Paint}
-use Rattle.paints.specs.declared.Paint.the-variants.{Solid, VGrad, Linear, Radial}
 use Rattle.poly.specs.Poly.{offsetOf, runSum, coverOf, inkIn, areaAt, reachOf}
-use Rattle.poly.specs.Rooms.{Over, inkFrom, levelOf}
+use Rattle.poly.specs.Rooms.{Over, inkFrom}
 use Rattle.poly.specs.declared.bounds.PolyBox.{PolyBox}
 use Rattle.poly.proofs.Turns.{runSum-more}
 
@@ -106,16 +105,9 @@ module _ (acc : List Float) (ls skip x0 : ℕ) (paint : Paint) (x y p : ℕ) {a 
   pub ink-none : cv ≡ 0 → p ≡ inkFrom acc ls skip x0 paint x y p
   ink-none z = sym (overC-none p (paintAt paint (centreOf x) (centreOf y))) ∙ ap (λ (k : ℕ). overC p (paintAt paint (centreOf x) (centreOf y)) k) (sym z) ∙ ink-by
 
--- in a row, a level paint is its colour at any column
-pub ink-level : (acc : List Float) (ls skip x0 : ℕ) (paint : Paint) (x y p : ℕ) → levelOf paint ≡ true
-    → inkFrom acc ls skip x0 (Solid (paintAt paint (centreOf x0) (centreOf y))) x y p ≡ inkFrom acc ls skip x0 paint x y p
-unfolding inkFrom levelOf paintAt
-ink-level acc ls skip x0 (Solid c) x y p e = refl
-ink-level acc ls skip x0 (VGrad y0 y1 c0 c1) x y p e = refl
-ink-level acc ls skip x0 (Linear p0 p1 c0 c1) x y p e = absurd (true≢false (sym e))
-ink-level acc ls skip x0 (Radial c r c0 c1) x y p e = absurd (true≢false (sym e))
-
-pub ink-in : (acc : List Float) (g : PolyBox) (paint : Paint) (x0 y x p : ℕ) → leZ (g .ox) (pos x0) ≡ true → x0 ≤ x
-    → inkFrom acc (offsetOf y (g .oy) * (g .bw + 2)) (offsetOf x0 (g .ox)) x0 paint x y p ≡ inkIn acc g paint x y p
+-- the same by a paint that agrees in the row
+pub ink-in : (acc : List Float) (g : PolyBox) (here paint : Paint) (x0 y x p : ℕ) → leZ (g .ox) (pos x0) ≡ true → x0 ≤ x
+    → ((c : Float) → paintAt here c (centreOf y) ≡ paintAt paint c (centreOf y))
+    → inkFrom acc (offsetOf y (g .oy) * (g .bw + 2)) (offsetOf x0 (g .ox)) x0 here x y p ≡ inkIn acc g paint x y p
 unfolding inkFrom inkIn areaAt
-ink-in acc g paint x0 y x p h l = rw (offset-more (g .ox) x0 x h l)
+ink-in acc g here paint x0 y x p h l e = rw (offset-more (g .ox) x0 x h l, e (centreOf x))

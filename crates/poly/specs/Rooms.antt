@@ -1,6 +1,6 @@
 -- What the private contracts ask: that the accumulator has room for the box, that the box is near, and that a part of the canvas lies in
 -- it; and the box with its need. Assumes nothing.
-use mathlib.Core.Bool.{Bool, true, false, cond}
+use mathlib.Core.Bool.{true, cond}
 use mathlib.Core.List.{List}
 use mathlib.Core.Path.{_≡_}
 use Prim.Native.Nat.{ℕ, _+_, _-_, _*_, _≤_}
@@ -12,7 +12,6 @@ use Rattle.color.specs.Inks.{overC}
 use Rattle.gfx.specs.Points.{coordsOk}
 use Rattle.paints.specs.Paints.{paintAt, centreOf}
 use Rattle.paints.specs.declared.Paint.{Paint}
-use Rattle.paints.specs.declared.Paint.the-variants.{Solid, VGrad, Linear, Radial}
 use Rattle.poly.specs.Poly.{pointCount, polyBox, painted, needOf, offsetOf, runSum, coverOf}
 use Rattle.poly.specs.declared.bounds.PolyBox.{PolyBox}
 use Rattle.poly.specs.declared.bounds.Plan.{Plan}
@@ -50,13 +49,6 @@ planOf pts = cond (painted pts) (planned (polyBox pts)) noPlan
 -- a pixel by the words of its row, which starts at ls: column x0 is the one after `skip`
 unfoldable pub inkFrom : List Float → ℕ → ℕ → ℕ → Paint → ℕ → ℕ → ℕ → ℕ
 inkFrom acc ls skip x0 paint x y p = overC p (paintAt paint (centreOf x) (centreOf y)) (coverOf (runSum acc ls (skip + (x - x0) + 1)))
-
--- whether a paint has one colour in a whole row
-unfoldable pub levelOf : Paint → Bool
-levelOf (Solid c) = true
-levelOf (VGrad y0 y1 c0 c1) = true
-levelOf (Linear p0 p1 c0 c1) = false
-levelOf (Radial c r c0 c1) = false
 
 -- columns or rows from a up to b of the canvas lie in a box's, which start at the origin
 pub record Over (origin : ℤ) (span a b : ℕ) : Type 0 where

@@ -6,8 +6,10 @@ use color::blend_c;
 use draw::Area;
 use draw::clipped;
 use geom::IRect;
+use geom::Pt;
 use geom::nat_of;
 use paints::Paint;
+use paints::along_line;
 use paints::centre;
 ghost use mathlib.Core.Path.{_≡_};
 ghost use Prim.Native.Nat.{_+_, _-_, _≤_};
@@ -17,8 +19,8 @@ ghost use Rattle.color.specs.Inks.{overC};
 ghost use Rattle.paints.specs.Paints.{paintAt, centreOf};
 ghost use Rattle.draw.specs.Areas.{drawnIn, area, clipTo, RowFits, AreaFits};
 ghost use Rattle.poly.specs.Poly.{runSum, offsetOf, coverOf, inkIn, reachOf};
-ghost use Rattle.poly.specs.Rooms.{Room, Near, Over, inkFrom, levelOf};
-ghost use Rattle.paints.specs.declared.Paint.the-variants.{Solid};
+ghost use Rattle.poly.specs.Rooms.{Room, Near, Over, inkFrom};
+ghost use Rattle.paints.specs.declared.Paint.the-variants.{Solid, Linear};
 
 // A signed area as a coverage, 0 to 255. Most of a box lies outside the polygon: there nothing is converted.
 fn cover(a: f32) -> u32
@@ -38,6 +40,15 @@ fn shade(p: u32, paint: Paint, x: usize, y: usize, cv: u32) -> u32
 {
     let c = paint.at(centre(x as u16), centre(y as u16));
     blend_c(p, c, cv)
+}
+
+// A linear gradient over the pixel p in column x and row y.
+fn line_shade(p: u32, p0: Pt, p1: Pt, c0: Color, c1: Color, x: usize, y: usize, cv: u32) -> u32
+    requires { ⌜ (x ≤ 2048) × (y ≤ 2048) ⌝ }
+    ensures { λ r. ⌜ r ≡ overC p (paintAt (Linear p0 p1 c0 c1) (centreOf x) (centreOf y)) cv ⌝ }
+{
+    let t = along_line(p0, p1, centre(x as u16), centre(y as u16));
+    blend_c(p, c0.mix(c1, t), cv)
 }
 
 // Where column or row x of the canvas lies in the box.
@@ -89,6 +100,37 @@ fn paint_row(
     }
 }
 
+// The same under a linear gradient.
+fn line_row(
+    px: &mut [u32],
+    acc: &[f32],
+    pitch: usize,
+    x0: usize,
+    x1: usize,
+    y: usize,
+    ls: usize,
+    skip: usize,
+    p0: Pt,
+    p1: Pt,
+    c0: Color,
+    c1: Color,
+)
+    requires { ⌜ RowFits pitch y x0 x1 (length (now px)) ⌝ }
+    requires { ⌜ ls + (skip + (x1 - x0)) ≤ length (now acc) ⌝ }
+    ensures { λ _. ⌜ now (px .exit) ≡ drawnIn pitch (area x0 y x1 (y + 1)) (inkFrom (now (acc .entry)) ls skip x0 (Linear p0 p1 c0 c1)) (now (px .entry)) ⌝ }
+{
+    let row = y * pitch;
+    let mut a = run_sum(acc, ls, skip);
+    for x in x0..x1 {
+        a = a + acc[ls + (skip + (x - x0))];
+        let cv = cover(a);
+        if cv == 0 {
+            continue;
+        }
+        px[row + x] = line_shade(px[row + x], p0, p1, c0, c1, x, y, cv);
+    }
+}
+
 // The same in one colour.
 fn flat_row(
     px: &mut [u32],
@@ -117,34 +159,7 @@ fn flat_row(
     }
 }
 
-// Whether a paint has one colour in a whole row.
-fn level(paint: Paint) -> bool
-    ensures { λ r. ⌜ r ≡ levelOf paint ⌝ }
-{
-    match paint {
-        Paint::Solid(_) => true,
-        Paint::VGrad {
-            y0: _,
-            y1: _,
-            c0: _,
-            c1: _,
-        } => true,
-        Paint::Linear {
-            p0: _,
-            p1: _,
-            c0: _,
-            c1: _,
-        } => false,
-        Paint::Radial {
-            c: _,
-            r: _,
-            c0: _,
-            c1: _,
-        } => false,
-    }
-}
-
-// The same, with the colour of a level paint taken once.
+// The same by the kind of the paint.
 fn sum_row(
     px: &mut [u32],
     acc: &[f32],
@@ -160,11 +175,12 @@ fn sum_row(
     requires { ⌜ ls + (skip + (x1 - x0)) ≤ length (now acc) ⌝ }
     ensures { λ _. ⌜ now (px .exit) ≡ drawnIn pitch (area x0 y x1 (y + 1)) (inkFrom (now (acc .entry)) ls skip x0 paint) (now (px .entry)) ⌝ }
 {
-    if level(paint) {
-        let c = paint.at(centre(x0 as u16), centre(y as u16));
-        flat_row(px, acc, pitch, x0, x1, y, ls, skip, c);
-    } else {
-        paint_row(px, acc, pitch, x0, x1, y, ls, skip, paint);
+    match paint {
+        Paint::Solid(c) => flat_row(px, acc, pitch, x0, x1, y, ls, skip, c),
+        Paint::Linear { p0, p1, c0, c1 } => {
+            line_row(px, acc, pitch, x0, x1, y, ls, skip, p0, p1, c0, c1)
+        }
+        _ => paint_row(px, acc, pitch, x0, x1, y, ls, skip, paint),
     }
 }
 
@@ -188,7 +204,8 @@ fn poly_row(
     let stride = g.bw + 2;
     let ls = offset(y, oy) * stride;
     let skip = offset(x0, ox);
-    sum_row(px, acc, pitch, x0, x1, y, ls, skip, paint);
+    let here = paint.in_row(centre(y as u16));
+    sum_row(px, acc, pitch, x0, x1, y, ls, skip, here);
 }
 
 // The rows of an area.

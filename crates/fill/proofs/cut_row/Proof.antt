@@ -12,7 +12,7 @@ inner : (c : tie.Else1) → edgeRow (c .before .before .before .before .args .s 
 inner c = rw (← (c .before .before .centre .ensures), ← (c .before .edge-row .ensures)) (c .if1 .left)
 
 beside : (c : tie.After-corner-row) →
-    cornerRow (c .before .before .before .before .before .args .s .rect) (c .before .before .before .before .before .args .s .r) (centreOf (c .before .before .before .before .before .args .y))
+    cornerRow (c .before .before .before .before .before .args .s .rect) (c .before .before .before .before .before .args .s .edge .r) (centreOf (c .before .before .before .before .before .args .y))
     ≡ c .corner-row .result
 beside c = rw (← (c .before .before .before .centre .ensures)) (sym (c .corner-row .ensures))
 
@@ -29,7 +29,7 @@ returns : tie.Need-returns
 returns c =
     let e = c .before in
     let st = e .before .before .before in
-    cut-edge (st .args .s .rect) (st .args .s .r) (st .args .y) _ _ (st .pre .0) (rw (← (e .before .centre .ensures), ← (e .edge-row .ensures)) (c .if1 .taken))
+    cut-edge (st .args .s .rect) (st .args .s .edge .r) (st .args .y) _ _ (st .pre .0) (rw (← (e .before .centre .ensures), ← (e .edge-row .ensures)) (c .if1 .taken))
 
 corner-row-requires : tie.Need-corner-row-requires
 corner-row-requires c κs = search needs
@@ -42,7 +42,7 @@ returns-2 c =
     let k = c .before .before in
     let st = k .before .before .before .before .before in
     rw (c .clamped .ensures, st .pre .2 .bent)
-    (cut-between (st .args .s .rect) (st .args .s .r) (st .args .y) _ _ true (st .pre .0) (inner (k .before)) (beside k ∙ c .before .if2 .taken))
+    (cut-between (st .args .s .rect) (st .args .s .edge .r) (st .args .y) _ _ true (st .pre .0) (inner (k .before)) (beside k ∙ c .before .if2 .taken))
 
 clamped-requires-2 : tie.Need-clamped-requires-2
 clamped-requires-2 c κs = search needs
@@ -52,7 +52,7 @@ returns-3 c =
     let k = c .before .before in
     let st = k .before .before .before .before .before in
     rw (c .clamped2 .ensures, st .pre .2 .straight)
-    (cut-between (st .args .s .rect) (st .args .s .r) (st .args .y) _ _ false (st .pre .0) (inner (k .before)) (beside k ∙ c .before .if2 .left))
+    (cut-between (st .args .s .rect) (st .args .s .edge .r) (st .args .y) _ _ false (st .pre .0) (inner (k .before)) (beside k ∙ c .before .if2 .left))
 
 pub cut-row-spec : {M : Type 1} → statement M
 cut-row-spec =

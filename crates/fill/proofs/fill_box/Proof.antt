@@ -7,7 +7,7 @@ use Rattle.fill.proofs.fill_box.Statement.{statement}
 use Rattle.fill.proofs.fill_box.Tie as tie
 
 abbrev Inv-loop : tie.InvT-loop
-Inv-loop px₀ w s paint x0 x1 y₀ y-end px y = InRows w (roundInk (s .rect) (s .r) paint) x0 x1 y₀ y-end px₀ px y
+Inv-loop px₀ w s paint x0 x1 y₀ y-end px y = InRows w (roundInk (s .rect) (s .edge .r) paint) x0 x1 y₀ y-end px₀ px y
 
 abbrev μ-loop : tie.MeasureT-loop
 μ-loop px₀ w s paint x0 x1 y₀ y-end px y = y-end - y
@@ -15,7 +15,7 @@ abbrev μ-loop : tie.MeasureT-loop
 loop-holds : tie.Need-loop-holds Inv-loop μ-loop
 loop-holds c =
     let args = c .before .args in
-    rows-start _ (roundInk (args .s .rect) (args .s .r) (args .paint)) _ _ _ _ _ (c .before .pre .0 .down)
+    rows-start _ (roundInk (args .s .rect) (args .s .edge .r) (args .paint)) _ _ _ _ _ (c .before .pre .0 .down)
 
 fill-row-requires : tie.Need-fill-row-requires Inv-loop μ-loop
 fill-row-requires c κs =

@@ -1,6 +1,5 @@
 -- `fill::filled` meets its contract. Assumes nothing.
-use mathlib.Core.Path.{_≡_, refl, sym, ap, _∙_}
-use lib.Ieee.{Float}
+use mathlib.Core.Path.{_≡_, sym, _∙_}
 use Rattle.geom.specs.Int.{up}
 use Rattle.geom.proofs.Signed.{kept}
 use Rattle.draw.specs.Areas.{clipTo}
@@ -10,7 +9,6 @@ use Rattle.gfx.proofs.Sizes.{shape-open}
 use Rattle.gfx.proofs.Fits.{canvas-fits}
 use Rattle.paints.specs.Paints.{radiusOf}
 use Rattle.fill.specs.Fill.{fillReach}
-use Rattle.fill.specs.Rows.{roundOf}
 use borrow.Author.Needs.{needs}
 use Rattle.fill.proofs.filled.Statement.{statement}
 use Rattle.fill.proofs.filled.Tie as tie
@@ -22,9 +20,10 @@ clip : (c : tie.After-clipped) → c .clipped .result
     ≡ clipTo (fillReach (c .before .before .before .before .before .before .before .before .args .rect)) (c .before .before .before .before .before .before .before .before .args .canvas .clip)
 clip c = c .clipped .ensures ∙ rw (c .before .fill-reach .ensures)
 
-round : (c : tie.After-round-of) → c .round-of .result
-    ≡ roundOf (c .before .before .before .before .before .before .before .before .before .before .args .rect) (radiusOf (c .before .before .before .before .before .before .before .before .before .before .args .rect) (c .before .before .before .before .before .before .before .before .before .before .args .r))
-round c = c .round-of .ensures ∙ ap (λ (t : Float). roundOf (c .before .before .before .before .before .before .before .before .before .before .args .rect) t) (c .before .radius .ensures)
+-- the corners have the radius that the sides allow
+cut : (c : tie.After-round-of) → c .round-of .result .edge .r
+    ≡ radiusOf (c .before .before .before .before .before .before .before .before .before .before .args .rect) (c .before .before .before .before .before .before .before .before .before .before .args .r)
+cut c = c .round-of .ensures .2 ∙ c .before .radius .ensures
 
 shape-number-requires : tie.Need-shape-number-requires
 shape-number-requires c κs = search needs
@@ -55,7 +54,7 @@ fill-box-requires c κs =
     let test = n .before .before in
     let args = test .before .before .before .args in (
       rw (pitch n, clip k) (canvas-fits (args .canvas) _ (fillReach (args .rect)) (shape-open _ _ (args .ok) (sym (test .before .shape-number .ensures) ∙ test .if1 .left))),
-      rw (s .round-of .ensures) (record { bent = refl; straight = refl }),
+      s .round-of .ensures .0,
     )
 
 same-length : tie.Need-same-length
@@ -69,7 +68,7 @@ returns-2 c =
     let n = k .before .before .before in
     let test = n .before .before in
     let args = test .before .before .before .args in
-    rw (f .fill-box .ensures, pitch n, clip k, round s, ← (drawn-clip (up (args .canvas .w)) (args .canvas .clip) (fillReach (args .rect))))
+    rw (f .fill-box .ensures, pitch n, clip k, s .round-of .ensures .1, cut s, ← (drawn-clip (up (args .canvas .w)) (args .canvas .clip) (fillReach (args .rect))))
     (accepted-call (test .before .shape-number .ensures) (test .if1 .left))
 
 pub filled-spec : {M : Type 1} → statement M

@@ -9,6 +9,12 @@ enum-known-paint c = search needs
 solid-span-requires : tie.Need-solid-span-requires
 solid-span-requires c κs = search needs
 
+enum-known-paint-2 : tie.Need-enum-known-paint-2
+enum-known-paint-2 c = search needs
+
+line-span-requires : tie.Need-line-span-requires
+line-span-requires c κs = search needs
+
 paint-span-requires : tie.Need-paint-span-requires
 paint-span-requires c κs = search needs
 
@@ -24,7 +30,15 @@ same-length-2 : tie.Need-same-length-2
 same-length-2 c = search needs
 
 returns-2 : tie.Need-returns-2
-returns-2 c = c .before .before .paint-span .ensures
+returns-2 c =
+    let s = c .before .before in
+    rw (s .before .before .before .paint2 .given .1) (s .line-span .ensures)
+
+same-length-3 : tie.Need-same-length-3
+same-length-3 c = search needs
+
+returns-3 : tie.Need-returns-3
+returns-3 c = c .before .before .paint-span .ensures
 
 pub middle-span-spec : {M : Type 1} → statement M
 middle-span-spec =
@@ -32,8 +46,12 @@ middle-span-spec =
     (tie.spec
     enum-known-paint
     solid-span-requires
+    enum-known-paint-2
+    line-span-requires
     paint-span-requires
     same-length
     returns
     same-length-2
-    returns-2)
+    returns-2
+    same-length-3
+    returns-3)

@@ -41,9 +41,18 @@ mul-ls c = omega (arith, words c)
 offset-requires-2 : tie.Need-offset-requires-2
 offset-requires-2 c κs = search needs
 
+cast-centre : tie.Need-cast-centre
+cast-centre c = search needs
+
+centre-requires : tie.Need-centre-requires
+centre-requires c κs = search needs
+
+in-row-requires : tie.Need-in-row-requires
+in-row-requires c κs = search needs
+
 sum-row-requires : tie.Need-sum-row-requires
 sum-row-requires c κs =
-    let p = c .before in
+    let p = c .before .before .before in
     let s = p .before .before .before .before .before .before .before in
     (s .pre .0, omega (arith, words (p .before), skip-at p, s .pre .1 .2 .to))
 
@@ -53,7 +62,8 @@ same-length c = search needs
 returns : tie.Need-returns
 returns c =
     let d = c .before .before in
-    let p = d .before .before in
+    let h = d .before .before in
+    let p = h .before .before in
     let s = p .before .before .before .before .before .before .before in
     let at = s .args in
     let acc = at .acc .now in
@@ -61,7 +71,7 @@ returns c =
     let skip = offsetOf (at .x0) (at .g .ox) in
     d .sum-row .ensures
     ∙ rw (skip-at p, row-at (p .before))
-    (row-same (at .pitch) (inkFrom acc ls skip (at .x0) (at .paint)) (inkIn acc (at .g) (at .paint)) (at .px .now) (at .x0) (at .x1) (at .y) (λ x q l u. ink-in acc (at .g) (at .paint) (at .x0) (at .y) x q (s .pre .1 .2 .from) l))
+    (row-same (at .pitch) (inkFrom acc ls skip (at .x0) (h .in-row .result)) (inkIn acc (at .g) (at .paint)) (at .px .now) (at .x0) (at .x1) (at .y) (λ x q l u. ink-in acc (at .g) (h .in-row .result) (at .paint) (at .x0) (at .y) x q (s .pre .1 .2 .from) l (rw (h .before .centre .ensures) at (h .in-row .ensures))))
 
 pub poly-row-spec : {M : Type 1} → statement M
 poly-row-spec =
@@ -71,6 +81,9 @@ poly-row-spec =
     offset-requires
     mul-ls
     offset-requires-2
+    cast-centre
+    centre-requires
+    in-row-requires
     sum-row-requires
     same-length
     returns)

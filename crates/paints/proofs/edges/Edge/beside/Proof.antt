@@ -10,8 +10,8 @@ both-positive-requires c κs = search needs
 cover-requires : tie.Need-cover-requires
 cover-requires c κs = search needs
 
-cov8-requires : tie.Need-cov8-requires
-cov8-requires c κs = search needs
+side-cover-requires : tie.Need-side-cover-requires
+side-cover-requires c κs = search needs
 
 returns : tie.Need-returns
 unfolding cornerSd
@@ -19,7 +19,7 @@ returns c = λ sure same. rw (← (c .before .before .both-positive .ensures), c
 
 returns-2 : tie.Need-returns-2
 unfolding cornerSd
-returns-2 c = λ sure same. let d = c .before .before .before in rw (← (d .before .both-positive .ensures), d .if1 .left, c .before .before .if2 .taken) (c .cov8 .ensures)
+returns-2 c = λ sure same. let d = c .before .before .before in rw (← (d .before .both-positive .ensures), d .if1 .left, c .before .before .if2 .taken) (c .side-cover .ensures)
 
 returns-3 : tie.Need-returns-3
 unfolding cornerSd
@@ -27,4 +27,4 @@ returns-3 c = λ sure same. rw (← (c .before .before .both-positive .ensures),
 
 pub beside-spec : {M : Type 1} → statement M
 beside-spec =
-    tie.close (tie.spec both-positive-requires cover-requires cov8-requires returns returns-2 returns-3)
+    tie.close (tie.spec both-positive-requires cover-requires side-cover-requires returns returns-2 returns-3)

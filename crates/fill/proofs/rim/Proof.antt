@@ -1,4 +1,4 @@
--- `fill::wide_span` meets its contract. The columns before x are drawn. Assumes nothing.
+-- `fill::rim` meets its contract. The columns before x are drawn. Assumes nothing.
 use mathlib.Core.Path.{_≡_, sym, _∙_}
 use Prim.Native.Nat.{_-_}
 use native.Mathlib.Omega.{arith}
@@ -6,22 +6,21 @@ use Rattle.color.proofs.Overs.{overC-none}
 use Rattle.draw.proofs.Loops.{InRow, row-start, row-next, row-pass, row-end}
 use Rattle.paints.specs.Paints.{centreOf}
 use Rattle.fill.specs.Fill.{coverOf, rimInk}
-use Rattle.fill.proofs.wide_span.Statement.{statement}
-use Rattle.fill.proofs.wide_span.Tie as tie
+use Rattle.fill.proofs.rim.Statement.{statement}
+use Rattle.fill.proofs.rim.Tie as tie
 
 abbrev Inv-loop : tie.InvT-loop
-Inv-loop px₀ w y x0 x1 rect r paint row yc e l x₀ px x = InRow w (rimInk rect r paint) y x0 x1 px₀ px x
+Inv-loop px₀ w y x0 x1 rect e l paint row yc x₀ px x = InRow w (rimInk rect (e .r) paint) y x0 x1 px₀ px x
 
 abbrev μ-loop : tie.MeasureT-loop
-μ-loop px₀ w y x0 x1 rect r paint row yc e l x₀ px x = x1 - x
+μ-loop px₀ w y x0 x1 rect e l paint row yc x₀ px x = x1 - x
 
 -- the coverage at column x, by the centres of x and y
-at-centre : (c : tie.After-level-cover Inv-loop μ-loop) → let loop = c .before .before .before in let args = loop .before .before .before .before .before .args in
-    c .level-cover .result ≡ coverOf (args .rect) (args .r) (centreOf (loop .loop .x)) (centreOf (args .y))
+at-centre : (c : tie.After-level-cover Inv-loop μ-loop) → let loop = c .before .before .before in let args = loop .before .before .before .args in
+    c .level-cover .result ≡ coverOf (args .rect) (args .e .r) (centreOf (loop .loop .x)) (centreOf (args .y))
 at-centre c =
-    let level = c .before .before .before .before in
-    let yc = level .before .before in
-    c .level-cover .ensures _ _ (level .before .of .ensures) (level .level-of .ensures) ∙ rw (c .before .centre2 .ensures, yc .centre .ensures)
+    let pre = c .before .before .before .before .before .before .pre in
+    c .level-cover .ensures _ (pre .1) (pre .2) ∙ rw (c .before .centre2 .ensures)
 
 mul-row : tie.Need-mul-row Inv-loop μ-loop
 mul-row c = omega arith
@@ -32,16 +31,10 @@ cast-centre c = omega arith
 centre-requires : tie.Need-centre-requires Inv-loop μ-loop
 centre-requires c κs = omega arith
 
-of-requires : tie.Need-of-requires Inv-loop μ-loop
-of-requires c κs = omega arith
-
-level-of-requires : tie.Need-level-of-requires Inv-loop μ-loop
-level-of-requires c κs = omega arith
-
 loop-holds : tie.Need-loop-holds Inv-loop μ-loop
 loop-holds c =
-    let args = c .before .before .before .before .args in
-    row-start _ (rimInk (args .rect) (args .r) (args .paint)) _ _ _ _ (c .before .before .before .before .pre .order)
+    let args = c .before .before .args in
+    row-start _ (rimInk (args .rect) (args .e .r) (args .paint)) _ _ _ _ (c .before .before .pre .0 .order)
 
 cast-centre-2 : tie.Need-cast-centre-2 Inv-loop μ-loop
 cast-centre-2 c = omega arith
@@ -64,7 +57,7 @@ loop-again c =
     let cv = c .before in
     let turn = cv .before .before in
     let loop = turn .before in
-    row-pass (loop .before .before .before .before .before .pre) (loop .loop .inv) (turn .loop-test .taken)
+    row-pass (loop .before .before .before .pre .0) (loop .loop .inv) (turn .loop-test .taken)
     (rw (sym (at-centre cv) ∙ c .if1 .taken) (sym (overC-none _ _)))
 
 colour-at-requires : tie.Need-colour-at-requires Inv-loop μ-loop
@@ -101,8 +94,8 @@ loop-again-2 c =
     let cv = at .before .before in
     let turn = cv .before .before in
     let loop = turn .before in
-    row-next (loop .before .before .before .before .before .pre) (loop .loop .inv) (turn .loop-test .taken)
-    (c .blend-c .ensures ∙ rw (at .colour-at .ensures, at-centre cv, cv .before .centre2 .ensures, loop .before .before .before .centre .ensures))
+    row-next (loop .before .before .before .pre .0) (loop .loop .inv) (turn .loop-test .taken)
+    (c .blend-c .ensures ∙ rw (at .colour-at .ensures, at-centre cv, cv .before .centre2 .ensures, loop .before .centre .ensures))
 
 same-length : tie.Need-same-length Inv-loop μ-loop
 same-length c = omega arith
@@ -110,8 +103,8 @@ same-length c = omega arith
 returns : tie.Need-returns Inv-loop μ-loop
 returns c = row-end (c .before .loop .inv) (c .loop-test .left)
 
-pub wide-span-spec : {M : Type 1} → statement M
-wide-span-spec =
+pub rim-spec : {M : Type 1} → statement M
+rim-spec =
     tie.close
     (tie.spec
     Inv-loop
@@ -119,8 +112,6 @@ wide-span-spec =
     mul-row
     cast-centre
     centre-requires
-    of-requires
-    level-of-requires
     loop-holds
     cast-centre-2
     centre-requires-2
