@@ -6,8 +6,12 @@ use Prim.Native.Nat.{ℕ, _+_, _<_, _≤_}
 use native.Mathlib.Nat.{eq-or-lt-of-le}
 use native.Mathlib.Omega.{arith}
 use borrow.Author.Tests.{not-true}
+use mathlib.Core.List.{List}
+use lib.ListN.{length, set}
 use lib.Ieee.{Float}
 use lib.Ieee.Bits.{is-true}
+use Rattle.draw.specs.Held.{Holds}
+use Rattle.draw.proofs.Held.{Filling, held-start, held-next}
 use Rattle.mathf.specs.F32.{_-ᶠ_, _≤ᶠ_, _<ᶠ_, f0}
 use Rattle.mathf.specs.Order.{fabsOf}
 use Rattle.mathf.proofs.Compared.{not-lt-of-le, le-through}
@@ -45,3 +49,16 @@ level-at s width c l a b x y p i k q h u =
     let qx = fabsOf (centreOf x -ᶠ s .cx) -ᶠ (s .hw -ᶠ s .r) in
     let in′ : (qx ≤ᶠ f0) ≡ true = i x h u in
     rw (← (k .past), not-above qx f0 in′, not-above qx (l .qy) (is-true (qx ≤ᶠ l .qy) (le-through qx f0 (l .qy) (passed in′) (passed q)))) (ap (overC p c) (k .covered))
+
+-- a row of numbers that is filled from its first place on
+module _ (f : ℕ → ℕ) (row : List ℕ) (size : ℕ) (long : length row ≡ size) where
+  pub first-none : Holds f 0 0 row
+  first-none =
+      let i : Filling f size 0 0 row 0 = held-start long (omega arith) in
+      i .held
+
+  pub first-more : (k v : ℕ) → k < size → Holds f 0 k row → v ≡ f k → Holds f 0 (k + 1) (set row k v)
+  first-more k v h i e =
+      let now′ : Filling f size 0 size row k = record { held = i; long = long; from = omega arith; to = omega arith } in
+      let next : Filling f size 0 size (set row k v) (k + 1) = held-next (omega arith) now′ h e in
+      next .held

@@ -1,7 +1,9 @@
 -- What the rows of an outline share, and the columns of a row.
 use mathlib.Core.Path.{_≡_}
 use mathlib.Core.Bool.{Bool, true, false, cond}
-use Prim.Native.Nat.{ℕ, _<_, _≤_}
+use mathlib.Core.List.{List}
+use Prim.Native.Nat.{ℕ, _+_, _-_, _<_, _≤_}
+use lib.ListN.{getD}
 use lib.Ieee.{Float}
 use Rattle.mathf.specs.F32.{_+ᶠ_, _-ᶠ_, _≤ᶠ_, f0, f1}
 use Rattle.mathf.specs.Order.{fabsOf}
@@ -10,7 +12,7 @@ use Rattle.mathf.specs.Convert.{toI32}
 use Rattle.geom.specs.Int.{up}
 use Rattle.color.specs.declared.Color.{Color}
 use Rattle.color.specs.Inks.{overC}
-use Rattle.paints.specs.Paints.{centreOf}
+use Rattle.paints.specs.Paints.{centreOf, roundedSd}
 use Rattle.paints.specs.declared.Rounded.{Rounded}
 use Rattle.stroke.specs.declared.Level.{Level}
 use Rattle.stroke.specs.declared.Columns.{Columns}
@@ -57,3 +59,11 @@ levelInk c cv x y p = overC p c cv
 -- the coverage of a column by its own distance
 unfoldable pub columnCover : Rounded → Float → ℕ → ℕ
 columnCover s width x = bandCover (fabsOf (centreOf x -ᶠ s .cx) -ᶠ (s .hw -ᶠ s .r) -ᶠ s .r) width
+
+-- that of the column k past x0, in the row with the centre yc
+unfoldable pub bandAt : Rounded → Float → Float → ℕ → ℕ → ℕ
+bandAt s width yc x0 k = bandCover (roundedSd s (centreOf (x0 + k)) yc) width
+
+-- each column by its coverage, of which x0 has the first
+unfoldable pub eachInk : Color → ℕ → List ℕ → ℕ → ℕ → ℕ → ℕ
+eachInk c x0 covers x y p = overC p c (getD covers (x - x0) 0)

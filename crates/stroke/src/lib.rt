@@ -29,7 +29,7 @@ ghost use Rattle.draw.specs.Areas.{drawnIn, area, clipTo, RowFits, AreaFits};
 ghost use Rattle.gfx.specs.Calls.{Called, shapeNumber};
 ghost use Rattle.paints.specs.Paints.{circleRect, roundedSd, centreOf};
 ghost use Rattle.stroke.specs.Stroke.{strokeOk, strokeReach, bandCover, fullRow, cornerRow, bandInk, outlineInk, strokeInk, ringOk};
-ghost use Rattle.stroke.specs.Rows.{LevelOf, widthOf, GapOf, RowGap, LevelIn, LevelPart, Ready, levelInk, columnCover};
+ghost use Rattle.stroke.specs.Rows.{LevelOf, widthOf, GapOf, RowGap, LevelIn, LevelPart, Ready, levelInk, columnCover, bandAt, eachInk};
 
 // The reach: nothing where the rectangle has no width or no height, or the colour no alpha.
 pub fn stroke_reach(rect: Rect, c: Color) -> IRect
@@ -219,20 +219,61 @@ fn side_span(
     }
 }
 
-// A part of any other row y, by distance.
+// The coverages of n columns from x0 on of any other row.
+fn covers(s: Rounded, width: f32, l: Level, x0: usize, n: usize) -> [u32; 128]
+    requires { ⌜ (x0 + n ≤ 2048) × (n ≤ 128) ⌝ }
+    ensures { λ r. ⌜ ((yc : Float) → LevelOf s width yc l → Holds (bandAt s width yc x0) 0 n r) ⌝ }
+{
+    let mut covers = [0u32; 128];
+    for k in 0..n {
+        covers[k] = level_cover(s, width, l, centre((x0 + k) as u16));
+    }
+    covers
+}
+
+// A part of row y, each column by its coverage.
+fn each_span(
+    px: &mut [u32],
+    covers: &[u32; 128],
+    w: usize,
+    y: usize,
+    x0: usize,
+    x1: usize,
+    c: Color,
+)
+    requires { ⌜ RowFits w y x0 x1 (length (now px)) ⌝ }
+    requires { ⌜ x1 ≤ x0 + 128 ⌝ }
+    ensures { λ _. ⌜ now (px .exit) ≡ drawnIn w (area x0 y x1 (y + 1)) (eachInk c x0 (now (covers .entry))) (now (px .entry)) ⌝ }
+{
+    let row = y * w;
+    for x in x0..x1 {
+        let i = row + x;
+        px[i] = blend_c_wide(px[i], c, covers[x - x0]);
+    }
+}
+
+// At most 128 columns of such a row y, by distance: their coverages first, then all pixels.
+fn corner_part(px: &mut [u32], w: usize, y: usize, x0: usize, x1: usize, o: Frame, l: Level)
+    requires { ⌜ RowFits w y x0 x1 (length (now px)) ⌝ }
+    requires { ⌜ LevelOf (o .s) (o .width) (centreOf y) l ⌝ }
+    requires { ⌜ x1 ≤ x0 + 128 ⌝ }
+    ensures { λ _. ⌜ now (px .exit) ≡ drawnIn w (area x0 y x1 (y + 1)) (bandInk (o .s) (o .width) (o .c)) (now (px .entry)) ⌝ }
+{
+    let covers = covers(o.s, o.width, l, x0, x1 - x0);
+    each_span(px, &covers, w, y, x0, x1, o.c);
+}
+
+// A part of such a row y.
 fn corner_span(px: &mut [u32], w: usize, y: usize, x0: usize, x1: usize, o: Frame, l: Level)
     requires { ⌜ RowFits w y x0 x1 (length (now px)) ⌝ }
     requires { ⌜ LevelOf (o .s) (o .width) (centreOf y) l ⌝ }
     ensures { λ _. ⌜ now (px .exit) ≡ drawnIn w (area x0 y x1 (y + 1)) (bandInk (o .s) (o .width) (o .c)) (now (px .entry)) ⌝ }
 {
-    let row = y * w;
-    for x in x0..x1 {
-        let cv = level_cover(o.s, o.width, l, centre(x as u16));
-        if cv == 0 {
-            continue;
-        }
-        let i = row + x;
-        px[i] = blend_c(px[i], o.c, cv);
+    let mut x = x0;
+    while x < x1 {
+        let next = between(x + 128, x, x1);
+        corner_part(px, w, y, x, next, o, l);
+        x = next;
     }
 }
 

@@ -1,89 +1,40 @@
 -- `stroke::corner_span` meets its contract. The columns before x are drawn. Assumes nothing.
-use mathlib.Core.Path.{_≡_, sym, _∙_}
+use mathlib.Core.Path.{refl}
 use Prim.Native.Nat.{_-_}
 use native.Mathlib.Omega.{arith}
-use Rattle.color.proofs.Overs.{overC-idle}
-use Rattle.draw.proofs.Loops.{InRow, row-start, row-next, row-pass, row-end}
-use Rattle.paints.specs.Paints.{centreOf, roundedSd}
-use Rattle.stroke.specs.Stroke.{bandCover, bandInk}
+use Rattle.draw.proofs.Loops.{InRow, row-start, row-span, row-end}
+use Rattle.stroke.specs.Stroke.{bandInk}
 use Rattle.stroke.proofs.corner_span.Statement.{statement}
 use Rattle.stroke.proofs.corner_span.Tie as tie
 
 abbrev Inv-loop : tie.InvT-loop
-Inv-loop px₀ w y x0 x1 o l row x₀ px x = InRow w (bandInk (o .s) (o .width) (o .c)) y x0 x1 px₀ px x
+Inv-loop px₀ w y x0 x1 o l x₀ px x = InRow w (bandInk (o .s) (o .width) (o .c)) y x0 x1 px₀ px x
 
 abbrev μ-loop : tie.MeasureT-loop
-μ-loop px₀ w y x0 x1 o l row x₀ px x = x1 - x
-
--- the coverage at column x, by the centres of x and y
-at-centre : (c : tie.After-level-cover Inv-loop μ-loop) → let loop = c .before .before .before in let args = loop .before .before .args in
-    c .level-cover .result ≡ bandCover (roundedSd (args .o .s) (centreOf (loop .loop .x)) (centreOf (args .y))) (args .o .width)
-at-centre c =
-    let start = c .before .before .before .before .before in
-    c .level-cover .ensures _ (start .pre .1) ∙ rw (c .before .centre .ensures)
-
-mul-row : tie.Need-mul-row Inv-loop μ-loop
-mul-row c = omega arith
+μ-loop px₀ w y x0 x1 o l x₀ px x = x1 - x
 
 loop-holds : tie.Need-loop-holds Inv-loop μ-loop
 loop-holds c =
     let o = c .before .args .o in
     row-start _ (bandInk (o .s) (o .width) (o .c)) _ _ _ _ (c .before .pre .0 .order)
 
-cast-centre : tie.Need-cast-centre Inv-loop μ-loop
-cast-centre c = omega arith
+add-between : tie.Need-add-between Inv-loop μ-loop
+add-between c = omega arith
 
-centre-requires : tie.Need-centre-requires Inv-loop μ-loop
-centre-requires c κs = omega arith
+between-requires : tie.Need-between-requires Inv-loop μ-loop
+between-requires c κs = omega arith
 
-level-cover-requires : tie.Need-level-cover-requires Inv-loop μ-loop
-level-cover-requires c κs = omega arith
-
-add-x : tie.Need-add-x Inv-loop μ-loop
-add-x c = omega arith
+corner-part-requires : tie.Need-corner-part-requires Inv-loop μ-loop
+corner-part-requires c κs = (omega arith, (c .before .before .before .before .before .pre .1, omega arith))
 
 loop-less : tie.Need-loop-less Inv-loop μ-loop
 loop-less c = omega arith
 
 loop-again : tie.Need-loop-again Inv-loop μ-loop
-unfolding bandInk
 loop-again c =
-    let turn = c .before .before .before in
-    let loop = turn .before in
-    row-pass (loop .before .before .pre .0) (loop .loop .inv) (turn .loop-test .taken)
-    (overC-idle _ _ _ (sym (at-centre (c .before)) ∙ c .if1 .taken))
-
-add-i : tie.Need-add-i Inv-loop μ-loop
-add-i c = omega arith
-
-mul-blend-c : tie.Need-mul-blend-c Inv-loop μ-loop
-mul-blend-c c = omega arith
-
-slice-read-blend-c : tie.Need-slice-read-blend-c Inv-loop μ-loop
-slice-read-blend-c c = omega arith
-
-blend-c-requires : tie.Need-blend-c-requires Inv-loop μ-loop
-blend-c-requires c κs = omega arith
-
-mul-px : tie.Need-mul-px Inv-loop μ-loop
-mul-px c = omega arith
-
-slice-write-px : tie.Need-slice-write-px Inv-loop μ-loop
-slice-write-px c = omega arith
-
-add-x-2 : tie.Need-add-x-2 Inv-loop μ-loop
-add-x-2 c = omega arith
-
-loop-less-2 : tie.Need-loop-less-2 Inv-loop μ-loop
-loop-less-2 c = omega arith
-
-loop-again-2 : tie.Need-loop-again-2 Inv-loop μ-loop
-unfolding bandInk
-loop-again-2 c =
-    let cover = c .before .before .before in
-    let turn = cover .before .before in
-    let loop = turn .before in
-    row-next (loop .before .before .pre .0) (loop .loop .inv) (turn .loop-test .taken) (c .blend-c .ensures ∙ rw (at-centre cover))
+    let loop = c .before .before .before .before .before .before in
+    let o = loop .before .before .args .o in
+    row-span (bandInk (o .s) (o .width) (o .c)) _ _ (loop .loop .inv) (omega arith) (omega arith) (c .before .before .corner-part .ensures) (λ j p l h. refl)
 
 same-length : tie.Need-same-length Inv-loop μ-loop
 same-length c = omega arith
@@ -92,27 +43,4 @@ returns : tie.Need-returns Inv-loop μ-loop
 returns c = row-end (c .before .loop .inv) (c .loop-test .left)
 
 pub corner-span-spec : {M : Type 1} → statement M
-corner-span-spec =
-    tie.close
-    (tie.spec
-    Inv-loop
-    μ-loop
-    mul-row
-    loop-holds
-    cast-centre
-    centre-requires
-    level-cover-requires
-    add-x
-    loop-less
-    loop-again
-    add-i
-    mul-blend-c
-    slice-read-blend-c
-    blend-c-requires
-    mul-px
-    slice-write-px
-    add-x-2
-    loop-less-2
-    loop-again-2
-    same-length
-    returns)
+corner-span-spec = tie.close (tie.spec Inv-loop μ-loop loop-holds add-between between-requires corner-part-requires loop-less loop-again same-length returns)

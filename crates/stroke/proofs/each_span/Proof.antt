@@ -1,0 +1,65 @@
+-- `stroke::each_span` meets its contract. The columns before x are drawn. Assumes nothing.
+use Prim.Native.Nat.{_-_}
+use native.Mathlib.Omega.{arith}
+use Rattle.draw.proofs.Loops.{InRow, row-start, row-next, row-end}
+use Rattle.stroke.specs.Rows.{eachInk}
+use Rattle.stroke.proofs.each_span.Statement.{statement}
+use Rattle.stroke.proofs.each_span.Tie as tie
+
+abbrev Inv-loop : tie.InvT-loop
+Inv-loop px₀ covers w y x0 x1 c row x₀ px x = InRow w (eachInk c x0 covers) y x0 x1 px₀ px x
+
+abbrev μ-loop : tie.MeasureT-loop
+μ-loop px₀ covers w y x0 x1 c row x₀ px x = x1 - x
+
+mul-row : tie.Need-mul-row Inv-loop μ-loop
+mul-row c = omega arith
+
+loop-holds : tie.Need-loop-holds Inv-loop μ-loop
+loop-holds c = row-start _ _ _ _ _ _ (c .before .pre .0 .order)
+
+add-i : tie.Need-add-i Inv-loop μ-loop
+add-i c = omega arith
+
+mul-blend-c-wide : tie.Need-mul-blend-c-wide Inv-loop μ-loop
+mul-blend-c-wide c = omega arith
+
+slice-read-blend-c-wide : tie.Need-slice-read-blend-c-wide Inv-loop μ-loop
+slice-read-blend-c-wide c = omega arith
+
+sub-blend-c-wide : tie.Need-sub-blend-c-wide Inv-loop μ-loop
+sub-blend-c-wide c = omega arith
+
+mul-blend-c-wide-2 : tie.Need-mul-blend-c-wide-2 Inv-loop μ-loop
+mul-blend-c-wide-2 c = omega arith
+
+element-copy-out-blend-c-wide : tie.Need-element-copy-out-blend-c-wide Inv-loop μ-loop
+element-copy-out-blend-c-wide c = omega arith
+
+blend-c-wide-requires : tie.Need-blend-c-wide-requires Inv-loop μ-loop
+blend-c-wide-requires c κs = omega arith
+
+mul-px : tie.Need-mul-px Inv-loop μ-loop
+mul-px c = omega arith
+
+slice-write-px : tie.Need-slice-write-px Inv-loop μ-loop
+slice-write-px c = omega arith
+
+add-x : tie.Need-add-x Inv-loop μ-loop
+add-x c = omega arith
+
+loop-less : tie.Need-loop-less Inv-loop μ-loop
+loop-less c = omega arith
+
+loop-again : tie.Need-loop-again Inv-loop μ-loop
+unfolding eachInk
+loop-again c = row-next (c .before .before .before .before .before .before .pre .0) (c .before .before .before .before .loop .inv) (c .before .before .before .loop-test .taken) (c .blend-c-wide .ensures)
+
+same-length : tie.Need-same-length Inv-loop μ-loop
+same-length c = omega arith
+
+returns : tie.Need-returns Inv-loop μ-loop
+returns c = row-end (c .before .loop .inv) (c .loop-test .left)
+
+pub each-span-spec : {M : Type 1} → statement M
+each-span-spec = tie.close (tie.spec Inv-loop μ-loop mul-row loop-holds add-i mul-blend-c-wide slice-read-blend-c-wide sub-blend-c-wide mul-blend-c-wide-2 element-copy-out-blend-c-wide blend-c-wide-requires mul-px slice-write-px add-x loop-less loop-again same-length returns)
