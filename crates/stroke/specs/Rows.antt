@@ -4,8 +4,10 @@ use mathlib.Core.Bool.{Bool, true, false, cond}
 use mathlib.Core.List.{List}
 use Prim.Native.Nat.{ℕ, _+_, _-_, _<_, _≤_}
 use lib.ListN.{getD}
-use lib.Ieee.{Float}
+use lib.Dec.{T}
+use lib.Ieee.{Float, binary32, fits}
 use Rattle.mathf.specs.F32.{_+ᶠ_, _-ᶠ_, _≤ᶠ_, f0, f1}
+use Rattle.mathf.specs.Root.{sqrtOf}
 use Rattle.mathf.specs.Order.{fabsOf}
 use Rattle.mathf.specs.Whole.{floorOf, ceilOf}
 use Rattle.mathf.specs.Convert.{toI32}
@@ -19,10 +21,19 @@ use Rattle.stroke.specs.declared.Columns.{Columns}
 use Rattle.stroke.specs.declared.Frame.{Frame}
 use Rattle.stroke.specs.Stroke.{bandCover, gapFrom, gapUpto}
 
--- of the row with the centre yc: how far it is past the sides, and the coverage where no corner or side is nearer
+-- squared distances of the centre of a corner with the radius r: from k on, or up to k, the band covers nothing
+unfoldable pub BlankFrom : Float → Float → Float → Type 0
+BlankFrom r width k = (d : Float) → T (fits binary32 d) → (k ≤ᶠ d) ≡ true → bandCover (sqrtOf d -ᶠ r) width ≡ 0
+
+unfoldable pub BlankUpto : Float → Float → Float → Type 0
+BlankUpto r width k = (d : Float) → T (fits binary32 d) → (f0 ≤ᶠ d) ≡ true → (d ≤ᶠ k) ≡ true → bandCover (sqrtOf d -ᶠ r) width ≡ 0
+
+-- of the row with the centre yc: how far it is past the sides, the coverage where no corner or side is nearer, and two such distances
 pub record LevelOf (s : Rounded) (width yc : Float) (l : Level) : Type 0 where
   pub past : l .qy ≡ fabsOf (yc -ᶠ s .cy) -ᶠ (s .hh -ᶠ s .r)
   pub covered : l .level ≡ bandCover (l .qy -ᶠ s .r) width
+  pub outside : BlankFrom (s .r) width (l .far)
+  pub inside : BlankUpto (s .r) width (l .near)
 
 -- the gap of a row that passes a rounded corner, or of any other, and that of the row with the centre yc
 abbrev pub widthOf : Bool → Rounded → Float → Float
@@ -47,8 +58,10 @@ pub record LevelPart (s : Rounded) (x0 x1 : ℕ) (g : Columns) : Type 0 where
   pub before : g .upto ≤ x1
   pub level : LevelIn s (g .from) (g .upto)
 
--- an outline has the gaps of its rows
+-- an outline has the gaps of its rows, and two such distances
 pub record Ready (o : Frame) : Type 0 where
+  pub outside : BlankFrom (o .s .r) (o .width) (o .far)
+  pub inside : BlankUpto (o .s .r) (o .width) (o .near)
   pub bent : GapOf (o .s) (o .width) true (o .bent)
   pub straight : GapOf (o .s) (o .width) false (o .straight)
 

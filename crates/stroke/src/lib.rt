@@ -14,14 +14,14 @@ use gfx::Done;
 use paints::Rounded;
 use paints::both_positive;
 use paints::centre;
-use paints::corner_sd;
 ghost use mathlib.Core.Path.{_≡_};
 ghost use mathlib.Core.Bool.{true, false};
 ghost use Prim.Native.Nat.{_+_, _<_, _≤_};
 ghost use lib.Dec.{T};
 ghost use lib.Ieee.{Float};
 ghost use lib.ListN.{length};
-ghost use Rattle.mathf.specs.F32.{_+ᶠ_, _≤ᶠ_, f0, f1};
+ghost use Rattle.mathf.specs.F32.{_+ᶠ_, _-ᶠ_, _*ᶠ_, _≤ᶠ_, f0, f1};
+ghost use Rattle.mathf.specs.Root.{sqrtOf};
 ghost use Rattle.geom.specs.Int.{up};
 ghost use Rattle.draw.specs.Draw.{drawn};
 ghost use Rattle.draw.specs.Held.{Holds};
@@ -29,7 +29,7 @@ ghost use Rattle.draw.specs.Areas.{drawnIn, area, clipTo, RowFits, AreaFits};
 ghost use Rattle.gfx.specs.Calls.{Called, shapeNumber};
 ghost use Rattle.paints.specs.Paints.{circleRect, roundedSd, centreOf};
 ghost use Rattle.stroke.specs.Stroke.{strokeOk, strokeReach, bandCover, fullRow, cornerRow, bandInk, outlineInk, strokeInk, ringOk};
-ghost use Rattle.stroke.specs.Rows.{LevelOf, widthOf, GapOf, RowGap, LevelIn, LevelPart, Ready, levelInk, columnCover, bandAt, eachInk};
+ghost use Rattle.stroke.specs.Rows.{LevelOf, BlankFrom, BlankUpto, widthOf, GapOf, RowGap, LevelIn, LevelPart, Ready, levelInk, columnCover, bandAt, eachInk};
 
 // The reach: nothing where the rectangle has no width or no height, or the colour no alpha.
 pub fn stroke_reach(rect: Rect, c: Color) -> IRect
@@ -126,7 +126,8 @@ fn level_part(s: Rounded, x0: usize, x1: usize) -> Columns
     Columns { from: x1, upto: x1 }
 }
 
-// An outline as its rows ask for it: the gaps of rows beside the corners and of others, and the columns beside no corner.
+// An outline as its rows ask for it: the gaps of rows beside the corners and of others, the columns beside no corner, and the squared
+// distances of a corner's centre beyond which it covers nothing.
 struct Frame {
     s: Rounded,
     width: f32,
@@ -134,22 +135,75 @@ struct Frame {
     bent: Columns,
     straight: Columns,
     level: Columns,
+    far: f32,
+    near: f32,
 }
 
-// What the columns of a row share: how far it is past the sides, and its coverage beside the corners.
+// A squared distance of a corner's centre just over half a pixel outside the band, from which on it covers nothing; a NaN where none was
+// found.
+fn blank_from(r: f32, width: f32) -> f32
+    ensures { λ k. ⌜ BlankFrom r width k ⌝ }
+{
+    let e = r + 0.51;
+    let k = e * e;
+    if mathf::sqrt(k) - r >= 0.5 {
+        k
+    } else {
+        0.0 / 0.0
+    }
+}
+
+// One just over half a pixel inside the band, up to which it covers nothing.
+fn blank_upto(r: f32, width: f32) -> f32
+    ensures { λ k. ⌜ BlankUpto r width k ⌝ }
+{
+    let e = mathf::max(r - width - 0.51, 0.0);
+    let k = e * e;
+    let m = mathf::sqrt(k) - r;
+    let small = (-1048576.0 <= m) & (m <= 1048576.0);
+    if small & (m + width <= -0.5) {
+        k
+    } else {
+        0.0 / 0.0
+    }
+}
+
+// What the columns of a row share: how far it is past the sides, its coverage beside the corners, and where a corner's is known.
 struct Level {
     qy: f32,
     level: u32,
+    far: f32,
+    near: f32,
 }
 
-fn level_of(s: Rounded, width: f32, yc: f32) -> Level
-    ensures { λ l. ⌜ LevelOf s width yc l ⌝ }
+fn level_of(o: Frame, yc: f32) -> Level
+    requires { ⌜ Ready o ⌝ }
+    ensures { λ l. ⌜ LevelOf (o .s) (o .width) yc l ⌝ }
 {
-    let qy = mathf::fabs(yc - s.cy) - (s.hh - s.r);
+    let qy = mathf::fabs(yc - o.s.cy) - (o.s.hh - o.s.r);
+    let level = band_cover(qy - o.s.r, o.width);
+    let far = o.far;
+    let near = o.near;
     Level {
         qy,
-        level: band_cover(qy - s.r, width),
+        level,
+        far,
+        near,
     }
+}
+
+// The coverage of a point qx past one side and as far past the other as its row is: a root only near the band.
+fn corner_cover(r: f32, width: f32, l: Level, qx: f32) -> u32
+    ensures { λ n. ⌜ (BlankFrom r width (l .far) → BlankUpto r width (l .near) → n ≡ bandCover (sqrtOf (qx *ᶠ qx +ᶠ l .qy *ᶠ l .qy) -ᶠ r) width) ⌝ }
+{
+    let d = qx * qx + l.qy * l.qy;
+    if l.far <= d {
+        return 0;
+    }
+    if d <= l.near {
+        return 0;
+    }
+    band_cover(mathf::sqrt(d) - r, width)
 }
 
 // The coverage of a point of such a row.
@@ -158,7 +212,7 @@ fn level_cover(s: Rounded, width: f32, l: Level, xc: f32) -> u32
 {
     let qx = mathf::fabs(xc - s.cx) - (s.hw - s.r);
     if both_positive(qx, l.qy) {
-        return band_cover(corner_sd(qx, l.qy, s.r), width);
+        return corner_cover(s.r, width, l, qx);
     }
     if qx > l.qy {
         return band_cover(qx - s.r, width);
@@ -378,7 +432,7 @@ fn outline_row(
     ensures { λ _. ⌜ now (px .exit) ≡ drawnIn w (area x0 y x1 (y + 1)) (outlineInk (o .s) (o .width) (o .c)) (now (px .entry)) ⌝ }
 {
     let yc = centre(y as u16);
-    let l = level_of(o.s, o.width, yc);
+    let l = level_of(o, yc);
     if full_row(o.s, o.width + 1.0, yc) {
         full_span(px, w, y, x0, x1, o, l);
     } else {
@@ -416,6 +470,8 @@ fn outline_area(px: &mut [u32], w: usize, b: Area, s: Rounded, width: f32, c: Co
         bent,
         straight,
         level,
+        far: blank_from(s.r, width),
+        near: blank_upto(s.r, width),
     };
     let cols = column_covers(s, width, b.x0, b.x1);
     outline_box(px, &cols, w, b, o);

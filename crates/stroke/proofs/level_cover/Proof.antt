@@ -1,5 +1,4 @@
 -- `stroke::level_cover` meets its contract. Assumes nothing.
-use mathlib.Core.Path.{_∙_}
 use borrow.Author.Needs.{needs}
 use Rattle.paints.specs.Paints.{cornerSd, rrectSd}
 use Rattle.stroke.proofs.level_cover.Statement.{statement}
@@ -11,36 +10,35 @@ fabs-requires c κs = search needs
 both-positive-requires : tie.Need-both-positive-requires
 both-positive-requires c κs = search needs
 
-corner-sd-requires : tie.Need-corner-sd-requires
-corner-sd-requires c κs = search needs
+corner-cover-requires : tie.Need-corner-cover-requires
+corner-cover-requires c κs = search needs
+
+returns : tie.Need-returns
+unfolding rrectSd cornerSd
+returns c =
+    λ yc k.
+    let b = c .before .before in
+    rw (← (b .before .before .fabs .ensures), ← (k .past), ← (b .both-positive .ensures), c .before .if1 .taken)
+    (c .corner-cover .ensures (k .outside) (k .inside))
 
 band-cover-requires : tie.Need-band-cover-requires
 band-cover-requires c κs = search needs
 
-returns : tie.Need-returns
-unfolding rrectSd
-returns c = λ yc k.
-    let f = c .before .before .before .before .before in
-    c .band-cover .ensures ∙ rw (c .before .corner-sd .ensures, k .past, f .fabs .ensures)
-
-band-cover-requires-2 : tie.Need-band-cover-requires-2
-band-cover-requires-2 c κs = search needs
-
 returns-2 : tie.Need-returns-2
 unfolding rrectSd cornerSd
-returns-2 c = λ yc k.
+returns-2 c =
+    λ yc k.
     let b = c .before .before .before .before .before in
     rw (← (b .before .before .fabs .ensures), ← (k .past), ← (b .both-positive .ensures), c .before .before .before .before .if1 .left, c .before .before .if2 .taken)
-    (c .band-cover2 .ensures)
+    (c .band-cover .ensures)
 
 returns-3 : tie.Need-returns-3
 unfolding rrectSd cornerSd
-returns-3 c = λ yc k.
+returns-3 c =
+    λ yc k.
     let b = c .before .before .before in
     rw (← (b .before .before .fabs .ensures), ← (k .past), ← (b .both-positive .ensures), c .before .before .if1 .left, c .if2 .left)
     (k .covered)
 
 pub level-cover-spec : {M : Type 1} → statement M
-level-cover-spec =
-    tie.close
-    (tie.spec fabs-requires both-positive-requires corner-sd-requires band-cover-requires returns band-cover-requires-2 returns-2 returns-3)
+level-cover-spec = tie.close (tie.spec fabs-requires both-positive-requires corner-cover-requires returns band-cover-requires returns-2 returns-3)

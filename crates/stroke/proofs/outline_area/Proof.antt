@@ -13,11 +13,17 @@ gap-requires-2 c κs = search needs
 level-part-requires : tie.Need-level-part-requires
 level-part-requires c κs = (c .before .before .before .pre .across, c .before .before .before .pre .wide)
 
+blank-from-requires : tie.Need-blank-from-requires
+blank-from-requires c κs = search needs
+
+blank-upto-requires : tie.Need-blank-upto-requires
+blank-upto-requires c κs = search needs
+
 column-covers-requires : tie.Need-column-covers-requires
-column-covers-requires c κs = (c .before .before .before .before .pre .across, c .before .before .before .before .pre .wide)
+column-covers-requires c κs = (c .before .before .before .before .before .before .pre .across, c .before .before .before .before .before .before .pre .wide)
 
 outline-box-requires : tie.Need-outline-box-requires
-outline-box-requires c κs = (c .before .before .before .before .before .before .before .pre, (record { bent = c .before .before .before .before .before .gap .ensures; straight = c .before .before .before .before .gap2 .ensures }, c .before .before .before .level-part .ensures, c .before .before .column-covers .ensures))
+outline-box-requires c κs = (c .before .before .before .before .before .before .before .before .before .pre, (record { outside = c .before .before .before .before .blank-from .ensures; inside = c .before .before .before .blank-upto .ensures; bent = c .before .before .before .before .before .before .before .gap .ensures; straight = c .before .before .before .before .before .before .gap2 .ensures }, c .before .before .before .before .before .level-part .ensures, c .before .before .column-covers .ensures))
 
 same-length : tie.Need-same-length
 same-length c = omega arith
@@ -26,4 +32,4 @@ returns : tie.Need-returns
 returns c = c .before .before .outline-box .ensures
 
 pub outline-area-spec : {M : Type 1} → statement M
-outline-area-spec = tie.close (tie.spec gap-requires gap-requires-2 level-part-requires column-covers-requires outline-box-requires same-length returns)
+outline-area-spec = tie.close (tie.spec gap-requires gap-requires-2 level-part-requires blank-from-requires blank-upto-requires column-covers-requires outline-box-requires same-length returns)

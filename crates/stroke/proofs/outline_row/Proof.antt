@@ -13,7 +13,7 @@ centre-requires : tie.Need-centre-requires
 centre-requires c κs = search needs
 
 level-of-requires : tie.Need-level-of-requires
-level-of-requires c κs = search needs
+level-of-requires c κs = c .before .before .pre .1 .0
 
 full-row-requires : tie.Need-full-row-requires
 full-row-requires c κs = search needs
