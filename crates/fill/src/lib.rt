@@ -345,6 +345,26 @@ fn fill_box(px: &mut [u32], w: usize, bb: Area, s: Round, paint: Paint)
     }
 }
 
+// An area of a rounded rectangle: what its rows share is worked out first.
+fn fill_all(px: &mut [u32], w: usize, bb: Area, rect: Rect, r: f32, paint: Paint)
+    requires { ⌜ AreaFits w bb (length (now px)) ⌝ }
+    ensures { λ _. ⌜ now (px .exit) ≡ drawnIn w bb (fillInk rect r paint) (now (px .entry)) ⌝ }
+{
+    let short = radius(rect, r);
+    let s = round_of(rect, short);
+    fill_box(px, w, bb, s, paint);
+}
+
+// The same, where the area has rows.
+fn fill_area(px: &mut [u32], w: usize, bb: Area, rect: Rect, r: f32, paint: Paint)
+    requires { ⌜ AreaFits w bb (length (now px)) ⌝ }
+    ensures { λ _. ⌜ now (px .exit) ≡ drawnIn w bb (fillInk rect r paint) (now (px .entry)) ⌝ }
+{
+    if bb.y0 < bb.y1 {
+        fill_all(px, w, bb, rect, r, paint);
+    }
+}
+
 // A rounded rectangle under the clip, unless the call is refused.
 fn filled(canvas: Canvas, px: &mut [u32], ok: bool, rect: Rect, r: f32, paint: Paint) -> Done
     ensures { λ d. ⌜ Filled canvas ok rect r paint (now (px .entry)) d (now (px .exit)) ⌝ }
@@ -356,9 +376,7 @@ fn filled(canvas: Canvas, px: &mut [u32], ok: bool, rect: Rect, r: f32, paint: P
     let w = nat_of(canvas.w);
     let clip = canvas.clip;
     let bb = clipped(fill_reach(rect), clip);
-    let short = radius(rect, r);
-    let s = round_of(rect, short);
-    fill_box(px, w, bb, s, paint);
+    fill_area(px, w, bb, rect, r, paint);
     Done { number, canvas }
 }
 

@@ -131,14 +131,24 @@ fn segment_box(px: &mut [u32], w: usize, bb: Area, s: Segment, e: Edge, color: C
     }
 }
 
+// An area of a line: what its rows share is worked out first.
+fn line_all(px: &mut [u32], w: usize, bb: Area, a: Pt, b: Pt, width: f32, color: Color)
+    requires { ⌜ AreaFits w bb (length (now px)) ⌝ }
+    ensures { λ _. ⌜ now (px .exit) ≡ drawnIn w bb (lineInk a b width color) (now (px .entry)) ⌝ }
+{
+    let s = segment_of(a, b, width);
+    segment_box(px, w, bb, s, Edge::of(s.hw), color);
+}
+
 // One line under a clip within px.
 fn draw_line(px: &mut [u32], w: usize, clip: IRect, a: Pt, b: Pt, width: f32, color: Color)
     requires { ⌜ AreaFits w (clipTo (lineReach a b width) clip) (length (now px)) ⌝ }
     ensures { λ _. ⌜ now (px .exit) ≡ drawn w clip (lineReach a b width) (lineInk a b width color) (now (px .entry)) ⌝ }
 {
     let bb = clipped(line_reach(a, b, width), clip);
-    let s = segment_of(a, b, width);
-    segment_box(px, w, bb, s, Edge::of(s.hw), color);
+    if bb.y0 < bb.y1 {
+        line_all(px, w, bb, a, b, width, color);
+    }
 }
 
 fn line_ok(a: Pt, b: Pt, width: f32) -> bool

@@ -413,17 +413,8 @@ fn shade_box(
     }
 }
 
-// An area of the shadow of a rectangle.
-fn shade_area(
-    px: &mut [u32],
-    w: usize,
-    b: Area,
-    rect: Rect,
-    r: f32,
-    blur: f32,
-    c: Color,
-    skip: bool,
-)
+// An area of the shadow of a rectangle: what its rows share is worked out first.
+fn shade_all(px: &mut [u32], w: usize, b: Area, rect: Rect, r: f32, blur: f32, c: Color, skip: bool)
     requires { ⌜ AreaFits w b (length (now px)) ⌝ }
     ensures { λ _. ⌜ now (px .exit) ≡ drawnIn w b (shadowInk rect r blur c skip) (now (px .entry)) ⌝ }
 {
@@ -440,6 +431,25 @@ fn shade_area(
     };
     let cols = columns(&lut, h, b.x0, b.x1);
     shade_box(px, &lut, &cols, w, b, h, skip);
+}
+
+// The same, where the area has rows.
+fn shade_area(
+    px: &mut [u32],
+    w: usize,
+    b: Area,
+    rect: Rect,
+    r: f32,
+    blur: f32,
+    c: Color,
+    skip: bool,
+)
+    requires { ⌜ AreaFits w b (length (now px)) ⌝ }
+    ensures { λ _. ⌜ now (px .exit) ≡ drawnIn w b (shadowInk rect r blur c skip) (now (px .entry)) ⌝ }
+{
+    if b.y0 < b.y1 {
+        shade_all(px, w, b, rect, r, blur, c, skip);
+    }
 }
 
 // The soft shadow of a rounded rectangle; `blur` is half the width of its falloff.

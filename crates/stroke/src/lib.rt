@@ -456,7 +456,7 @@ fn outline_box(px: &mut [u32], cols: &[u32; 2048], w: usize, b: Area, o: Frame)
 }
 
 // An area of the outline of a rectangle: what its rows share is worked out first.
-fn outline_area(px: &mut [u32], w: usize, b: Area, s: Rounded, width: f32, c: Color)
+fn outline_all(px: &mut [u32], w: usize, b: Area, s: Rounded, width: f32, c: Color)
     requires { ⌜ AreaFits w b (length (now px)) ⌝ }
     ensures { λ _. ⌜ now (px .exit) ≡ drawnIn w b (outlineInk s width c) (now (px .entry)) ⌝ }
 {
@@ -475,6 +475,16 @@ fn outline_area(px: &mut [u32], w: usize, b: Area, s: Rounded, width: f32, c: Co
     };
     let cols = column_covers(s, width, b.x0, b.x1);
     outline_box(px, &cols, w, b, o);
+}
+
+// The same, where the area has rows.
+fn outline_area(px: &mut [u32], w: usize, b: Area, s: Rounded, width: f32, c: Color)
+    requires { ⌜ AreaFits w b (length (now px)) ⌝ }
+    ensures { λ _. ⌜ now (px .exit) ≡ drawnIn w b (outlineInk s width c) (now (px .entry)) ⌝ }
+{
+    if b.y0 < b.y1 {
+        outline_all(px, w, b, s, width, c);
+    }
 }
 
 // The outline of a rectangle whose floats were tested by the caller.

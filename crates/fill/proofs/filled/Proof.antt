@@ -7,7 +7,6 @@ use Rattle.draw.proofs.Clips.{drawn-clip}
 use Rattle.gfx.proofs.Answers.{refused-call, accepted-call}
 use Rattle.gfx.proofs.Sizes.{shape-open}
 use Rattle.gfx.proofs.Fits.{canvas-fits}
-use Rattle.paints.specs.Paints.{radiusOf}
 use Rattle.fill.specs.Fill.{fillReach}
 use borrow.Author.Needs.{needs}
 use Rattle.fill.proofs.filled.Statement.{statement}
@@ -19,11 +18,6 @@ pitch c = c .nat-of .ensures ∙ rw (kept (c .before .before .before .before .be
 clip : (c : tie.After-clipped) → c .clipped .result
     ≡ clipTo (fillReach (c .before .before .before .before .before .before .before .before .args .rect)) (c .before .before .before .before .before .before .before .before .args .canvas .clip)
 clip c = c .clipped .ensures ∙ rw (c .before .fill-reach .ensures)
-
--- the corners have the radius that the sides allow
-cut : (c : tie.After-round-of) → c .round-of .result .edge .r
-    ≡ radiusOf (c .before .before .before .before .before .before .before .before .before .before .args .rect) (c .before .before .before .before .before .before .before .before .before .before .args .r)
-cut c = c .round-of .ensures .2 ∙ c .before .radius .ensures
 
 shape-number-requires : tie.Need-shape-number-requires
 shape-number-requires c κs = search needs
@@ -40,22 +34,13 @@ fill-reach-requires c κs = search needs
 clipped-requires : tie.Need-clipped-requires
 clipped-requires c κs = search needs
 
-radius-requires : tie.Need-radius-requires
-radius-requires c κs = search needs
-
-round-of-requires : tie.Need-round-of-requires
-round-of-requires c κs = search needs
-
-fill-box-requires : tie.Need-fill-box-requires
-fill-box-requires c κs =
-    let s = c .before in
-    let k = s .before .before in
+fill-area-requires : tie.Need-fill-area-requires
+fill-area-requires c κs =
+    let k = c .before in
     let n = k .before .before .before in
     let test = n .before .before in
-    let args = test .before .before .before .args in (
-      rw (pitch n, clip k) (canvas-fits (args .canvas) _ (fillReach (args .rect)) (shape-open _ _ (args .ok) (sym (test .before .shape-number .ensures) ∙ test .if1 .left))),
-      s .round-of .ensures .0,
-    )
+    let args = test .before .before .before .args in
+    rw (pitch n, clip k) (canvas-fits (args .canvas) _ (fillReach (args .rect)) (shape-open _ _ (args .ok) (sym (test .before .shape-number .ensures) ∙ test .if1 .left)))
 
 same-length : tie.Need-same-length
 same-length c = search needs
@@ -63,12 +48,11 @@ same-length c = search needs
 returns-2 : tie.Need-returns-2
 returns-2 c =
     let f = c .before .before in
-    let s = f .before .before in
-    let k = s .before .before in
+    let k = f .before .before in
     let n = k .before .before .before in
     let test = n .before .before in
     let args = test .before .before .before .args in
-    rw (f .fill-box .ensures, pitch n, clip k, s .round-of .ensures .1, cut s, ← (drawn-clip (up (args .canvas .w)) (args .canvas .clip) (fillReach (args .rect))))
+    rw (f .fill-area .ensures, pitch n, clip k, ← (drawn-clip (up (args .canvas .w)) (args .canvas .clip) (fillReach (args .rect))))
     (accepted-call (test .before .shape-number .ensures) (test .if1 .left))
 
 pub filled-spec : {M : Type 1} → statement M
@@ -80,8 +64,6 @@ filled-spec =
     nat-of-requires
     fill-reach-requires
     clipped-requires
-    radius-requires
-    round-of-requires
-    fill-box-requires
+    fill-area-requires
     same-length
     returns-2)
