@@ -141,8 +141,8 @@ struct Frame {
 
 // A squared distance of a corner's centre just over half a pixel outside the band, from which on it covers nothing; a NaN where none was
 // found.
-fn blank_from(r: f32, width: f32) -> f32
-    ensures { λ k. ⌜ BlankFrom r width k ⌝ }
+fn blank_from(r: f32) -> f32
+    ensures { λ k. ⌜ ((width : Float) → BlankFrom r width k) ⌝ }
 {
     let e = r + 0.51;
     let k = e * e;
@@ -470,7 +470,7 @@ fn outline_all(px: &mut [u32], w: usize, b: Area, s: Rounded, width: f32, c: Col
         bent,
         straight,
         level,
-        far: blank_from(s.r, width),
+        far: blank_from(s.r),
         near: blank_upto(s.r, width),
     };
     let cols = column_covers(s, width, b.x0, b.x1);

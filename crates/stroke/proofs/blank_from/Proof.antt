@@ -10,10 +10,10 @@ sqrt-requires : tie.Need-sqrt-requires
 sqrt-requires c κs = search needs
 
 returns : tie.Need-returns
-returns c = from-at _ _ _ (mul-fits binary32 _ _) (rw (c .before .sqrt .ensures) at (c .if1 .taken))
+returns c = λ width. from-at _ _ width (mul-fits binary32 _ _) (rw (c .before .sqrt .ensures) at (c .if1 .taken))
 
 returns-2 : tie.Need-returns-2
-returns-2 c = from-none _ _
+returns-2 c = λ width. from-none _ width
 
 pub blank-from-spec : {M : Type 1} → statement M
 blank-from-spec = tie.close (tie.spec sqrt-requires returns returns-2)

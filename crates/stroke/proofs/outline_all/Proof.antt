@@ -23,7 +23,7 @@ column-covers-requires : tie.Need-column-covers-requires
 column-covers-requires c κs = (c .before .before .before .before .before .before .pre .across, c .before .before .before .before .before .before .pre .wide)
 
 outline-box-requires : tie.Need-outline-box-requires
-outline-box-requires c κs = (c .before .before .before .before .before .before .before .before .before .pre, (record { outside = c .before .before .before .before .blank-from .ensures; inside = c .before .before .before .blank-upto .ensures; bent = c .before .before .before .before .before .before .before .gap .ensures; straight = c .before .before .before .before .before .before .gap2 .ensures }, c .before .before .before .before .before .level-part .ensures, c .before .before .column-covers .ensures))
+outline-box-requires c κs = (c .before .before .before .before .before .before .before .before .before .pre, (record { outside = c .before .before .before .before .blank-from .ensures _; inside = c .before .before .before .blank-upto .ensures; bent = c .before .before .before .before .before .before .before .gap .ensures; straight = c .before .before .before .before .before .before .gap2 .ensures }, c .before .before .before .before .before .level-part .ensures, c .before .before .column-covers .ensures))
 
 same-length : tie.Need-same-length
 same-length c = omega arith
