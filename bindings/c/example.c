@@ -6,9 +6,9 @@
 #include <stdio.h>
 #include <string.h>
 
-enum { W = 24, H = 16, MOST = 512, ITEMS = 8, WORDS = 4096 };
+enum { W = 24, H = 16, MOST = 2048, ITEMS = 33, WORDS = 4096 };
 
-/* A sheet of up to 8 items: their bytes, and where each ends. */
+/* A sheet of up to 33 items: their bytes, and where each ends. */
 struct sheet {
     uint8_t body[MOST];
     size_t ends[ITEMS];
@@ -66,6 +66,13 @@ static size_t ticket(uint32_t grade, float bar, uint8_t out[MOST]) {
     fill(&s, 3, 3, 5, 5, grade);
     fill(&s, 3, 11, bar, 2, 0x207A4E);
     triangle(&s, 17, 3, 4, 0x3A6292);
+    return bytes_of(&s, W, H, 0xDEDBD2, out);
+}
+
+/* So many fills of a width, one over the other. */
+static size_t pile(size_t n, float width, uint8_t out[MOST]) {
+    struct sheet s = {.length = 0};
+    for (size_t i = 0; i < n; i++) fill(&s, 2, 2, width, 3, 0x207A4E);
     return bytes_of(&s, W, H, 0xDEDBD2, out);
 }
 
@@ -196,8 +203,24 @@ int main(void) {
     check("grade patched: its box", is(maldjupp_patch(old, n, new, m, px, W * H, scratch, WORDS), MALDJUPP_ACCEPTED, 0, 3, 3, 8, 8));
     check("the grade is brass", px[5 * W + 5] == brass);
 
-    memcpy(old, new, n = m), memcpy(before, px, sizeof px), m = ticket(copper, 8, new);
-    check("two shapes at once: refused 10", is(maldjupp_patch(old, n, new, m, px, W * H, scratch, WORDS), MALDJUPP_DIFFERENCE, 0, 0, 0, 0, 0));
+    memcpy(old, new, n = m), m = ticket(copper, 8, new);
+    check("grade and bar at once: the box around both", is(maldjupp_patch(old, n, new, m, px, W * H, scratch, WORDS), MALDJUPP_ACCEPTED, 0, 3, 3, 15, 13));
+    maldjupp_paint(new, m, fresh, W * H, scratch, WORDS);
+    check("the pixels are those of a fresh painting", memcmp(px, fresh, sizeof px) == 0 && px[5 * W + 5] == copper);
+
+    memcpy(old, new, n = m), m = ticket(brass, 12, new);
+    check("and back", is(maldjupp_patch(old, n, new, m, px, W * H, scratch, WORDS), MALDJUPP_ACCEPTED, 0, 3, 3, 15, 13));
+
+    n = pile(33, 4, old), m = pile(33, 6, new), maldjupp_paint(old, n, px, W * H, scratch, WORDS), memcpy(before, px, sizeof px);
+    check("33 shapes at once: refused 14", is(maldjupp_patch(old, n, new, m, px, W * H, scratch, WORDS), MALDJUPP_MANY, 0, 0, 0, 0, 0));
+    check("also where pixels are too few: 14 before 8", maldjupp_patch(old, n, new, m, px, 3, scratch, WORDS).number == MALDJUPP_MANY);
+    check("refused, nothing is altered", memcmp(px, before, sizeof px) == 0);
+    n = pile(32, 4, old), m = pile(32, 6, new);
+    check("32 at once: the box around all", is(maldjupp_patch(old, n, new, m, px, W * H, scratch, WORDS), MALDJUPP_ACCEPTED, 0, 2, 2, 8, 5));
+
+    n = ticket(brass, 12, old), m = ticket(brass, 12, new), new[4] ^= 1;
+    maldjupp_paint(old, n, px, W * H, scratch, WORDS), memcpy(before, px, sizeof px);
+    check("another ground: refused 10", is(maldjupp_patch(old, n, new, m, px, W * H, scratch, WORDS), MALDJUPP_DIFFERENCE, 0, 0, 0, 0, 0));
     m = ticket(brass, 8193, new);
     check("a bar of 8,193: refused 6 at item 3", is(maldjupp_patch(old, n, new, m, px, W * H, scratch, WORDS), MALDJUPP_FLOAT, 3, 0, 0, 0, 0));
     m = ticket(brass, 8, new);

@@ -27,9 +27,10 @@ enum maldjupp_number {
     MALDJUPP_CLIPS = 7,        /* a clip is pushed while 16 are saved */
     MALDJUPP_PIXELS = 8,       /* the pixels lent are not width times height */
     MALDJUPP_SCRATCH = 9,      /* the scratch lent is less than is needed */
-    MALDJUPP_DIFFERENCE = 10,  /* the sheets differ in more than one shape, or in something other than a shape */
+    MALDJUPP_DIFFERENCE = 10,  /* the sheets differ in size, ground or item count, or in a push or pop of a clip */
     MALDJUPP_STATE = 12,       /* a state that a canvas cannot be in */
-    MALDJUPP_POINTS = 13       /* over 64 points, or in a canvas call an odd count of coordinates */
+    MALDJUPP_POINTS = 13,      /* over 64 points, or in a canvas call an odd count of coordinates */
+    MALDJUPP_MANY = 14         /* the sheets differ in more than 32 shapes */
 };
 
 /* An answer. The box is columns x0 up to but without x1, rows y0 up to but without y1. Refused, it is four zeros. */
@@ -45,9 +46,10 @@ struct maldjupp_reply {
  * greatest of these. Accepted, the box is the whole canvas. Refused, no pixel and no scratch word is altered. */
 struct maldjupp_reply maldjupp_paint(const uint8_t *sheet, size_t bytes, uint32_t *px, size_t pixels, float *scratch, size_t words);
 
-/* Patches pixels that show the old sheet to the new one. The two may differ in one shape. Scratch is what the new sheet needs. Accepted,
- * no pixel outside the returned box is altered, and the pixels are those that painting the new sheet gives; the new sheet is the old
- * one of the next patch. Refused, nothing is altered, and the old sheet stays the old one. */
+/* Patches pixels that show the old sheet to the new one. The two may differ in up to 32 shapes. Scratch is what the new sheet needs.
+ * Accepted, the box is the smallest around these shapes, old and new, on the canvas, and no pixel outside it is altered; the pixels are
+ * those that painting the new sheet gives, and the new sheet is the old one of the next patch. Refused, nothing is altered, and the old
+ * sheet stays the old one. */
 struct maldjupp_reply maldjupp_patch(const uint8_t *old_sheet, size_t old_bytes, const uint8_t *new_sheet, size_t new_bytes,
                                      uint32_t *px, size_t pixels, float *scratch, size_t words);
 

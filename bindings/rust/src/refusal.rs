@@ -29,13 +29,15 @@ pub enum Refusal {
     State,
     /// 13
     Points,
+    /// 14
+    Many,
     /// A number that this crate does not know.
     Other(u32),
 }
 
 impl Refusal {
     /// Every refusal that a call gives.
-    pub const ALL: [Refusal; 12] = [
+    pub const ALL: [Refusal; 13] = [
         Refusal::SheetLength,
         Refusal::Header,
         Refusal::Pairs,
@@ -48,6 +50,7 @@ impl Refusal {
         Refusal::Difference,
         Refusal::State,
         Refusal::Points,
+        Refusal::Many,
     ];
 
     /// The number that the library returns.
@@ -65,6 +68,7 @@ impl Refusal {
             Refusal::Difference => 10,
             Refusal::State => 12,
             Refusal::Points => 13,
+            Refusal::Many => 14,
             Refusal::Other(number) => number,
         }
     }
@@ -89,9 +93,10 @@ impl Refusal {
             Refusal::Clips => "A clip is pushed while 16 are saved.",
             Refusal::Pixels => "The pixels lent are not width times height.",
             Refusal::Scratch => "The scratch lent is less than is needed.",
-            Refusal::Difference => "The sheets differ in more than one shape, or in something other than a shape.",
+            Refusal::Difference => "The sheets differ in size, ground or item count, or in a push or pop of a clip.",
             Refusal::State => "The state is none that a canvas can be in.",
             Refusal::Points => "There are over 64 points.",
+            Refusal::Many => "The sheets differ in more than 32 shapes.",
             Refusal::Other(_) => "The library gave a number that this crate does not know.",
         }
     }

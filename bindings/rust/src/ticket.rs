@@ -10,7 +10,7 @@ use crate::{raw, sheet, Error, IRect, Refusal, Refused, Shape, SheetBuilder, She
 /// let net = b.add(&bar(18_000.0))?;
 /// let mut ticket = Ticket::paint(&b)?;
 /// assert_eq!(ticket.replace(net, bar(18_220.0))?, IRect::new(10, 20, 56, 26));
-/// // The same, drawn from the start: the library finds the shape that differs.
+/// // The same, drawn from the start: the library finds the shapes that differ.
 /// let altered = ticket.edit(|b| {
 ///     b.clear();
 ///     b.add(&bar(18_400.0))
@@ -46,8 +46,8 @@ impl Ticket {
         Ok(Ticket { sheet, px, scratch })
     }
 
-    /// Patches the ticket to a new sheet, which may be any bytes, and returns the box outside which no pixel was altered. The sheets may
-    /// differ in one shape. Refused, the ticket stays as it is.
+    /// Patches the ticket to a new sheet, which may be any bytes, and returns the box outside which no pixel was altered: the smallest
+    /// around the shapes that differ, of which there may be up to 32. Refused, the ticket stays as it is.
     pub fn patch(&mut self, new: Vec<u8>) -> Result<IRect, Refused> {
         let need = sheet::scratch_words(&new);
         if self.scratch.len() < need {
@@ -58,7 +58,25 @@ impl Ticket {
         Ok(altered)
     }
 
-    /// Alters the sheet by calls of a builder that holds it, and patches the ticket to it. Where a call fails, nothing is patched.
+    /// Alters the sheet by calls of a builder that holds it, and patches the ticket to it, up to 32 shapes at once. Where a call fails,
+    /// nothing is patched.
+    ///
+    /// ```
+    /// use maldjupp::{Color, IRect, Rect, Shape, SheetBuilder, Ticket};
+    /// let bar = |y: f32, kg: f32| Shape::fill_rect(Rect::new(40.0, y, kg / 400.0, 6.0), Color::rgb(92, 106, 124));
+    /// let patch = |colour: Color| Shape::fill_rect(Rect::new(10.0, 20.0, 20.0, 20.0), colour);
+    /// let mut b = SheetBuilder::new(160, 80, Color::WHITE)?;
+    /// let (gross, tare, grade) = (b.add(&bar(20.0, 31_500.0))?, b.add(&bar(30.0, 0.0))?, b.add(&patch(Color::hex(0xECEBE6)))?);
+    /// let mut ticket = Ticket::paint(&b)?;
+    /// // The plate settles: gross bar, tare bar and grade in one patch.
+    /// let altered = ticket.edit(|b| {
+    ///     b.replace(gross, &bar(20.0, 31_460.0))?;
+    ///     b.replace(tare, &bar(30.0, 13_240.0))?;
+    ///     b.replace(grade, &patch(Color::rgb(184, 115, 51)))
+    /// })?;
+    /// assert_eq!(altered, IRect::new(10, 20, 119, 40));
+    /// # Ok::<(), Box<dyn std::error::Error>>(())
+    /// ```
     pub fn edit<T>(&mut self, alter: impl FnOnce(&mut SheetBuilder) -> Result<T, SheetError>) -> Result<IRect, Error> {
         let mut builder = self.builder();
         alter(&mut builder)?;

@@ -254,19 +254,31 @@ fn pixels_of_the_document() {
 }
 
 #[test]
-fn edits_of_more_than_a_shape_are_refused() {
+fn edits_of_shapes() {
     let mut b = black(8, 1);
     let at = |x: f32| Shape::fill_rect(Rect::new(x, 0.0, 1.0, 1.0), Color::WHITE);
     b.add(&at(0.0)).unwrap();
     b.add(&at(2.0)).unwrap();
     let mut ticket = Ticket::paint(&b).unwrap();
-    let refused = Err(Error::Refused(Refused { refusal: Refusal::Difference, item: 0 }));
-    assert_eq!(ticket.edit(|b| b.replace(0, &at(1.0)).and(b.replace(1, &at(3.0)))), refused);
-    assert_eq!(ticket.edit(|b| b.add(&at(1.0))), refused);
+    let refused = |refusal| Err(Error::Refused(Refused { refusal, item: 0 }));
+    assert_eq!(ticket.edit(|b| b.replace(0, &at(1.0)).and(b.replace(1, &at(3.0)))), Ok(IRect::new(0, 0, 4, 1)));
+    assert_eq!(ticket.px(), [0, 0xFF_FFFF, 0, 0xFF_FFFF, 0, 0, 0, 0]);
+    assert_eq!(ticket.edit(|b| b.replace(0, &at(0.0)).and(b.replace(1, &at(2.0)))), Ok(IRect::new(0, 0, 4, 1)));
+    assert_eq!(ticket.edit(|b| b.add(&at(1.0))), refused(Refusal::Difference));
     assert_eq!(ticket.edit(|b| b.replace(0, &at(0.0))), Ok(IRect::default()));
     assert_eq!(ticket.edit(|b| b.replace(7, &at(1.0))), Err(Error::Sheet(SheetError::NoItem { index: 7, count: 2 })));
     assert_eq!(ticket.replace(0, at(5.0)), Ok(IRect::new(0, 0, 6, 1)));
     assert_eq!(ticket.px(), [0, 0, 0xFF_FFFF, 0, 0, 0xFF_FFFF, 0, 0]);
+
+    let mut b = black(8, 1);
+    for _ in 0..33 {
+        b.add(&at(0.0)).unwrap();
+    }
+    let mut ticket = Ticket::paint(&b).unwrap();
+    let moved = |n: usize, x: f32| move |b: &mut SheetBuilder| (0..n).try_for_each(|i| b.replace(i, &at(x)));
+    assert_eq!(ticket.edit(moved(33, 4.0)), refused(Refusal::Many));
+    assert_eq!(ticket.edit(moved(32, 4.0)), Ok(IRect::new(0, 0, 5, 1)));
+    assert_eq!(ticket.px(), Ticket::paint(&ticket.builder()).unwrap().px());
 }
 
 #[test]
@@ -276,7 +288,7 @@ fn every_number_has_its_sentence() {
         assert!(refusal.sentence().ends_with('.'));
     }
     assert_eq!(Refusal::of(0), None);
-    assert_eq!(Refusal::of(14), Some(Refusal::Other(14)));
+    assert_eq!(Refusal::of(15), Some(Refusal::Other(15)));
 }
 
 /// Any bytes: the answer is a ticket or a refusal.

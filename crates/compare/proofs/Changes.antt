@@ -1,16 +1,18 @@
--- How two runs of items differ: counts that differ, a run that is the same, a first difference, and what one or two of them tell. Assumes nothing.
-use Prim.Native.Nat.{ℕ, zero, suc, _+_, _<_}
+-- How two runs of items differ: counts that differ, what the items seen so far tell with those after them, and a turn of the loop. Assumes nothing.
+use Prim.Native.Nat.{ℕ, zero, suc, _+_}
 use mathlib.Core.Path.{_≡_, refl, sym, ap, _∙_}
-use mathlib.Core.Bool.{Bool, true, false, cond, true≢false, false≢true}
+use mathlib.Core.Bool.{Bool, true, false, cond, _&&_, true≢false, false≢true}
 use mathlib.Core.List.{List, [], _∷_}
 use native.Mathlib.Nat.{zero-add}
 use native.Mathlib.Numerals.{add-one}
 use native.Mathlib.Omega.{arith}
-use lib.Dec.{eqb}
+use lib.Dec.{eqb, leb}
 use lib.ListN.{length}
-use borrow.Author.Tests.{ne-eqb, lt-leb}
-use Rattle.geom.specs.Box.{noBox, hull}
+use borrow.Author.Tests.{ne-eqb}
+use Rattle.geom.specs.Box.{noBox, meet, join, hull}
 use Rattle.geom.specs.declared.IRect.{IRect}
+use Rattle.geom.proofs.Bools.{and-left, and-right}
+use Rattle.geom.proofs.Boxes.{join-assoc, join-none}
 use Rattle.sheet.specs.Kinds.{kindAt}
 use Rattle.sheet.specs.Check.{countOf, bytesAt}
 use Rattle.redraw.specs.Drawing as drawing
@@ -20,7 +22,8 @@ use Rattle.items.specs.Items.{readFill, readStroke, readLine, readPoly, readSha
 use Rattle.items.specs.Format.{reachOf, kind, format, drawnAs, itemIn, itemsFrom, sameItem}
 use Rattle.items.specs.declared.Item.{Item}
 use Rattle.items.specs.declared.Item.the-variants.{Push, Pop, Fill, Stroke, Line, Poly, Shadow, Unknown}
-use Rattle.compare.specs.Compare.{changeFrom, found, changeNumber, changeBox, told, refused, changedBy, isShape, sameAt, firstFrom}
+use Rattle.compare.specs.declared.Difference.{Difference}
+use Rattle.compare.specs.Compare.{changeFrom, found, changeNumber, changeBox, told, changedBy, settled, isShape, sameAt}
 
 -- ---- a shape, by its kind
 
@@ -59,61 +62,63 @@ shape-own b Unknown e = refl
 
 -- ---- what differences tell
 
+-- what is told where `seen` pairs of shapes differ, with `area` around what their reaches have in the frame, and the items after them
+-- differ so
+unfoldable pub toldAfter : IRect → ℕ → IRect → Change (List ℕ) → Difference
+toldAfter frame seen area other = told 10 noBox
+toldAfter frame seen area (shapes l) = settled (seen + length l) (join area (hull frame (reaches (kind .reach) l)))
+
 module _ (frame : IRect) where
-  -- what is no shape differs
-  pub no-old-shape : (i j : drawing.Item (List ℕ)) (c : Change (List ℕ)) → isShape i ≡ false → changedBy frame (bothShapes i j c) ≡ refused
-  unfolding isShape bothShapes changeNumber changeBox
-  no-old-shape (push a p) j c e = refl
-  no-old-shape (pop a) j c e = refl
-  no-old-shape (shape a) j c e = absurd (true≢false e)
+  -- nothing seen yet
+  pub told-first : (c : Change (List ℕ)) → changedBy frame c ≡ toldAfter frame 0 noBox c
+  unfolding changeNumber changeBox toldAfter few
+  told-first other = refl
+  told-first (shapes l) = rw (zero-add (length l), join-none (hull frame (reaches (kind .reach) l))) (go (leb (length l) 32) (hull frame (reaches (kind .reach) l)))
+    where
+      go : (t : Bool) (box : IRect) → told (cond t 0 14) (cond t box noBox) ≡ cond t (told 0 box) (told 14 noBox)
+      go true box = refl
+      go false box = refl
 
-  pub no-new-shape : (i j : drawing.Item (List ℕ)) (c : Change (List ℕ)) → isShape j ≡ false → changedBy frame (bothShapes i j c) ≡ refused
-  unfolding isShape bothShapes changeNumber changeBox
-  no-new-shape (push a p) j c e = refl
-  no-new-shape (pop a) j c e = refl
-  no-new-shape (shape a) (push b q) c e = refl
-  no-new-shape (shape a) (pop b) c e = refl
-  no-new-shape (shape a) (shape b) c e = absurd (true≢false e)
+  module _ (seen : ℕ) (area : IRect) where
+    -- what is no shape differs
+    pub told-other : (i j : drawing.Item (List ℕ)) (c : Change (List ℕ)) → isShape i && isShape j ≡ false → toldAfter frame seen area (bothShapes i j c) ≡ told 10 noBox
+    unfolding isShape bothShapes toldAfter
+    told-other (push a p) j c e = refl
+    told-other (pop a) j c e = refl
+    told-other (shape a) (push b q) c e = refl
+    told-other (shape a) (pop b) c e = refl
+    told-other (shape a) (shape b) c e = absurd (true≢false e)
 
-  -- two pairs of items differ, whatever comes after them
-  pairs : (a b d e : List ℕ) (c : Change (List ℕ)) → changedBy frame (withPair a b (withPair d e c)) ≡ refused
-  unfolding withPair changeNumber changeBox few
-  pairs a b d e other = refl
-  pairs a b d e (shapes l) = rw (lt-leb (suc (suc (length l))) 1 (omega arith))
+    -- a pair of shapes more
+    pair : (a b : List ℕ) (c : Change (List ℕ))
+        → toldAfter frame seen area (withPair a b c) ≡ toldAfter frame (seen + 1) (join (join area (meet frame (kind .reach a))) (meet frame (kind .reach b))) c
+    unfolding withPair toldAfter reaches hull
+    pair a b other = refl
+    pair a b (shapes l) =
+        let n : seen + suc (length l) ≡ seen + 1 + length l = omega arith in
+        let m = meet frame (kind .reach b) in
+        let h = hull frame (reaches (kind .reach) l) in
+        let e = join-assoc (join area (meet frame (kind .reach a))) m h ∙ join-assoc area (meet frame (kind .reach a)) (join m h) in
+        rw (n, e)
 
-  pub twice : (i j p q : drawing.Item (List ℕ)) (c : Change (List ℕ)) → changedBy frame (bothShapes i j (bothShapes p q c)) ≡ refused
-  unfolding bothShapes withPair changeNumber changeBox
-  twice (push a u) j p q c = refl
-  twice (pop a) j p q c = refl
-  twice (shape a) (push b v) p q c = refl
-  twice (shape a) (pop b) p q c = refl
-  twice (shape a) (shape b) (push d u) q c = refl
-  twice (shape a) (shape b) (pop d) q c = refl
-  twice (shape a) (shape b) (shape d) (push e v) c = refl
-  twice (shape a) (shape b) (shape d) (pop e) c = refl
-  twice (shape a) (shape b) (shape d) (shape e) c = pairs a b d e c
+    pub told-pair : (a b : List ℕ) (c : Change (List ℕ)) → isShape (itemIn a) && isShape (itemIn b) ≡ true
+        → toldAfter frame seen area (bothShapes (itemIn a) (itemIn b) c)
+        ≡ toldAfter frame (seen + 1) (join (join area (meet frame (kind .reach a))) (meet frame (kind .reach b))) c
+    unfolding bothShapes
+    told-pair a b c e =
+        rw (shape-own a (itemOf a) (and-left _ (isShape (itemIn b)) e), shape-own b (itemOf b) (and-right (isShape (itemIn a)) _ e)) (pair a b c)
 
-  -- no difference, and one pair of shapes
-  pub unchanged : changedBy frame (shapes []) ≡ told 0 (hull frame [])
-  unfolding changeNumber changeBox few reaches
-  unchanged = refl
-
-  pub once : (a b : List ℕ) (c : Change (List ℕ)) → isShape (itemIn a) ≡ true → isShape (itemIn b) ≡ true → c ≡ shapes []
-      → changedBy frame (bothShapes (itemIn a) (itemIn b) c) ≡ told 0 (hull frame (reachOf a (itemOf a) ∷ reachOf b (itemOf b) ∷ []))
-  unfolding bothShapes withPair changeNumber changeBox few reaches
-  once a b c p q e = rw (shape-own a (itemOf a) p, shape-own b (itemOf b) q, e)
-
--- a patch by a difference: refused by 10, or drawn in the box
+-- a patch by a difference: refused by its number, or drawn in the box
 pub patch-by : (c : Change (List ℕ)) (s : Sheet (List ℕ)) (pxLen scratchLen : ℕ)
     → patchBy format c s pxLen scratchLen
-    ≡ cond (eqb (changeNumber c) 0) (lent format s pxLen scratchLen (changeBox (canvas s) c)) (refuses 10 0)
+    ≡ cond (eqb (changeNumber c) 0) (lent format s pxLen scratchLen (changeBox (canvas s) c)) (refuses (changeNumber c) 0)
 unfolding patchBy tooMany changeNumber changeBox
 patch-by other s pxLen scratchLen = refl
 patch-by (shapes l) s pxLen scratchLen = go (few l) (hull (canvas s) (reaches (kind .reach) l))
   where
     go : (t : Bool) (box : IRect)
-        → cond t (lent format s pxLen scratchLen box) (refuses 10 0)
-        ≡ cond (eqb (cond t 0 10) 0) (lent format s pxLen scratchLen (cond t box noBox)) (refuses 10 0)
+        → cond t (lent format s pxLen scratchLen box) (refuses 14 0)
+        ≡ cond (eqb (cond t 0 14) 0) (lent format s pxLen scratchLen (cond t box noBox)) (refuses (cond t 0 14) 0)
     go true box = refl
     go false box = refl
 
@@ -129,7 +134,7 @@ both-other (shape a) (shape b) = refl
 
 module _ (old new : List ℕ) where
   -- runs of different lengths
-  pub uneven : (left right k : ℕ) → (left ≡ right → ⊥) → change sameItem (itemsFrom old left k) (itemsFrom new right k) ≡ other
+  uneven : (left right k : ℕ) → (left ≡ right → ⊥) → change sameItem (itemsFrom old left k) (itemsFrom new right k) ≡ other
   unfolding change itemsFrom sameAt
   uneven zero zero k h = absurd (h refl)
   uneven zero (suc right) k h = refl
@@ -140,69 +145,26 @@ module _ (old new : List ℕ) where
       go true = refl
       go false = both-other (itemIn (bytesAt old k)) (itemIn (bytesAt new k))
 
-  -- the first difference: a turn of the loop, where it stops, and the end
-  pub first-turn : (left m k : ℕ) → left ≡ m + 1 → sameAt old new k ≡ true → firstFrom old new left k ≡ firstFrom old new m (k + 1)
-  unfolding firstFrom
-  first-turn left m k l e = rw (l, add-one, e)
-
-  pub first-stop : (left k : ℕ) → 0 < left → sameAt old new k ≡ false → firstFrom old new left k ≡ k
-  unfolding firstFrom
-  first-stop zero k h e = absurd (omega arith)
-  first-stop (suc left) k h e = rw e
-
-  pub first-done : (left k : ℕ) → left ≡ 0 → firstFrom old new left k ≡ k
-  unfolding firstFrom
-  first-done left k l = rw l
-
-  -- where there is none, nothing differs
-  pub first-none : (left k : ℕ) → firstFrom old new left k ≡ k + left → changeFrom old new left k ≡ shapes []
-  unfolding firstFrom change itemsFrom sameAt
-  first-none zero k e = refl
-  first-none (suc left) k e = go (sameAt old new k) e (first-none left (k + 1))
-    where
-      go : (t : Bool) → cond t (firstFrom old new left (k + 1)) k ≡ k + suc left
-          → (firstFrom old new left (k + 1) ≡ k + 1 + left → changeFrom old new left (k + 1) ≡ shapes [])
-          → cond t (changeFrom old new left (k + 1)) (bothShapes (itemIn (bytesAt old k)) (itemIn (bytesAt new k)) (changeFrom old new left (k + 1))) ≡ shapes []
-      go true f rest = rest (omega arith)
-      go false f rest = absurd (omega arith)
-
-  -- where there is one, `rest` items come after it
-  abbrev At : ℕ → ℕ → Change (List ℕ)
-  At d rest = bothShapes (itemIn (bytesAt old d)) (itemIn (bytesAt new d)) (changeFrom old new rest (d + 1))
-
-  pub first-some : (left k d rest : ℕ) → firstFrom old new left k ≡ d → d + suc rest ≡ k + left → changeFrom old new left k ≡ At d rest
-  unfolding firstFrom change itemsFrom sameAt
-  first-some zero k d rest f e = absurd (omega arith)
-  first-some (suc left) k d rest f e = go (sameAt old new k) f (first-some left (k + 1) d rest)
-    where
-      go : (t : Bool) → cond t (firstFrom old new left (k + 1)) k ≡ d
-          → (firstFrom old new left (k + 1) ≡ d → d + suc rest ≡ k + 1 + left → changeFrom old new left (k + 1) ≡ At d rest)
-          → cond t (changeFrom old new left (k + 1)) (bothShapes (itemIn (bytesAt old k)) (itemIn (bytesAt new k)) (changeFrom old new left (k + 1))) ≡ At d rest
-      go true f later = later f (omega arith)
-      go false f later = let l : left ≡ rest = omega arith in rw (sym f, l)
-
-  -- a pair of items that differs, and another after it
-  pub later : (frame : IRect) (i j : drawing.Item (List ℕ)) (left k d rest : ℕ) → firstFrom old new left k ≡ d → d + suc rest ≡ k + left
-      → changedBy frame (bothShapes i j (changeFrom old new left k)) ≡ refused
-  later frame i j left k d rest f e =
-      ap (λ (c : Change (List ℕ)). changedBy frame (bothShapes i j c)) (first-some left k d rest f e)
-      ∙ twice frame i j (itemIn (bytesAt old d)) (itemIn (bytesAt new d)) (changeFrom old new rest (d + 1))
-
-  -- ---- whole sheets
-
-  pub counts-differ : (frame : IRect) → (countOf old ≡ countOf new → ⊥) → changedBy frame (found old new) ≡ refused
+  pub counts-differ : (frame : IRect) → (countOf old ≡ countOf new → ⊥) → changedBy frame (found old new) ≡ told 10 noBox
   unfolding changeNumber changeBox
   counts-differ frame h = ap (changedBy frame) (uneven (countOf old) (countOf new) 0 h)
 
-  module _ (n : ℕ) (p : n ≡ countOf old) (q : n ≡ countOf new) where
-    even : found old new ≡ changeFrom old new n 0
-    even =
-        ap (λ (m : ℕ). change sameItem (itemsFrom old m 0) (itemsFrom new (countOf new) 0)) (sym p)
-        ∙ ap (λ (m : ℕ). change sameItem (itemsFrom old n 0) (itemsFrom new m 0)) (sym q)
+  pub even : (n : ℕ) → n ≡ countOf old → n ≡ countOf new → found old new ≡ changeFrom old new n 0
+  even n p q =
+      ap (λ (m : ℕ). change sameItem (itemsFrom old m 0) (itemsFrom new (countOf new) 0)) (sym p)
+      ∙ ap (λ (m : ℕ). change sameItem (itemsFrom old n 0) (itemsFrom new m 0)) (sym q)
 
-    pub found-none : (frame : IRect) → firstFrom old new n 0 ≡ n → changedBy frame (found old new) ≡ told 0 noBox
-    unfolding hull
-    found-none frame f = ap (changedBy frame) (even ∙ first-none n 0 (f ∙ sym (zero-add n))) ∙ unchanged frame
+  -- the items from k on, of which m are left after it, where the items k are the same, and where they differ
+  module _ (left m k : ℕ) (l : left ≡ m + 1) where
+    pub same-turn : sameAt old new k ≡ true → changeFrom old new left k ≡ changeFrom old new m (k + 1)
+    unfolding change itemsFrom sameAt
+    same-turn e = rw (l, add-one, e)
 
-    pub found-some : (d rest : ℕ) → firstFrom old new n 0 ≡ d → d + suc rest ≡ n → found old new ≡ At d rest
-    found-some d rest f e = even ∙ first-some n 0 d rest f (e ∙ sym (zero-add n))
+    pub other-turn : sameAt old new k ≡ false
+        → changeFrom old new left k ≡ bothShapes (itemIn (bytesAt old k)) (itemIn (bytesAt new k)) (changeFrom old new m (k + 1))
+    unfolding change itemsFrom sameAt
+    other-turn e = rw (l, add-one, e)
+
+  pub no-turn : (left k : ℕ) → left ≡ 0 → changeFrom old new left k ≡ shapes []
+  unfolding change itemsFrom
+  no-turn left k l = rw l

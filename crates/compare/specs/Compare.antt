@@ -1,7 +1,8 @@
 -- How two sheets differ (document 01, a patch), by any bytes: redraw's `change` at the format of items. Assumes nothing.
-use Prim.Native.Nat.{ℕ, zero, suc, _+_}
+use Prim.Native.Nat.{ℕ}
 use mathlib.Core.Bool.{Bool, true, false, cond}
 use mathlib.Core.List.{List}
+use lib.Dec.{leb}
 use Rattle.geom.specs.Box.{noBox, hull}
 use Rattle.geom.specs.declared.IRect.{IRect}
 use Rattle.sheet.specs.Check.{countOf, bytesAt}
@@ -19,10 +20,10 @@ changeFrom old new left k = change sameItem (itemsFrom old left k) (itemsFrom ne
 abbrev pub found : List ℕ → List ℕ → Change (List ℕ)
 found old new = change sameItem (itemsFrom old (countOf old) 0) (itemsFrom new (countOf new) 0)
 
--- the number: 10 for a push, a pop or the count, and for more than one shape
+-- the number: 10 for a push, a pop or the count, then 14 for more than 32 shapes
 unfoldable pub changeNumber : Change (List ℕ) → ℕ
 changeNumber other = 10
-changeNumber (shapes l) = cond (few l) 0 10
+changeNumber (shapes l) = cond (few l) 0 14
 
 -- the box: the smallest around the reaches, each first cut to the canvas
 unfoldable pub changeBox : IRect → Change (List ℕ) → IRect
@@ -32,11 +33,12 @@ changeBox frame (shapes l) = cond (few l) (hull frame (reaches (kind .reach) l))
 abbrev pub told : ℕ → IRect → Difference
 told number area = record { number = number; area = area }
 
-abbrev pub refused : Difference
-refused = told 10 noBox
-
 abbrev pub changedBy : IRect → Change (List ℕ) → Difference
 changedBy frame c = told (changeNumber c) (changeBox frame c)
+
+-- what n pairs of shapes tell, with the box around what their reaches have in the canvas
+abbrev pub settled : ℕ → IRect → Difference
+settled n area = cond (leb n 32) (told 0 area) (told 14 noBox)
 
 -- ---- item by item
 
@@ -50,8 +52,3 @@ isShape (shape b) = true
 
 unfoldable pub sameAt : List ℕ → List ℕ → ℕ → Bool
 sameAt old new k = sameItem (itemIn (bytesAt old k)) (itemIn (bytesAt new k))
-
--- the first of `left` items from k on that differs, or the place after the last one
-unfoldable pub firstFrom : List ℕ → List ℕ → ℕ → ℕ → ℕ
-firstFrom old new zero k = k
-firstFrom old new (suc left) k = cond (sameAt old new k) (firstFrom old new left (k + 1)) k

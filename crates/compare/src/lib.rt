@@ -8,16 +8,16 @@ use items::reaches::reach;
 use sheet::byte_at;
 use sheet::u16_at;
 ghost use mathlib.Core.Path.{_≡_};
-ghost use mathlib.Core.List.{[], _∷_};
-ghost use Prim.Native.Nat.{_+_, _-_, _<_, _≤_};
+ghost use mathlib.Core.Bool.{_&&_};
+ghost use Prim.Native.Nat.{_<_};
 ghost use Rattle.geom.specs.Box as Box;
-ghost use Rattle.geom.specs.Box.{hull};
+ghost use Rattle.geom.specs.Box.{meet, noBox};
 ghost use Rattle.sheet.specs.Check.{bytesAt};
-ghost use Rattle.redraw.specs.Sheet.{canvas, bothShapes, sameHeader};
+ghost use Rattle.redraw.specs.Sheet.{canvas, sameHeader};
 ghost use Rattle.items.specs.Format.{sameBytes, itemIn, sheetOf};
-ghost use Rattle.compare.specs.Compare.{isShape, sameAt, firstFrom, changeFrom, found, reachAt, refused, changedBy};
+ghost use Rattle.compare.specs.Compare.{isShape, sameAt, changeFrom, found, reachAt, told, settled, changedBy};
 
-// What a patch is refused with, 10 or 0, and the box that it redraws.
+// What a patch is refused with, 10, 14 or 0, and the box that it redraws.
 pub struct Difference {
     pub number: u32,
     pub area: IRect,
@@ -66,17 +66,11 @@ fn shape_at(s: &[u8], k: u16) -> bool
     }
 }
 
-// The first item from a place on that differs, or the place after the last one.
-fn same_from(old: &[u8], new: &[u8], from: usize, to: usize) -> usize
-    requires { ⌜ (from ≤ to) × (to < 65536) ⌝ }
-    ensures { λ r. ⌜ (r ≡ firstFrom (now (old .entry)) (now (new .entry)) (to - from) from) × (r ≤ to) ⌝ }
+// Whether both items k are shapes.
+fn both_shapes(old: &[u8], new: &[u8], k: u16) -> bool
+    ensures { λ r. ⌜ r ≡ isShape (itemIn (bytesAt (now (old .entry)) k)) && isShape (itemIn (bytesAt (now (new .entry)) k)) ⌝ }
 {
-    for k in from..to {
-        if !same_at(old, new, k as u16) {
-            return k;
-        }
-    }
-    to
+    shape_at(old, k) & shape_at(new, k)
 }
 
 // The smallest box around two that are not empty.
@@ -122,43 +116,56 @@ fn reach_at(s: &[u8], k: u16) -> IRect
     reach(&s[from..to])
 }
 
-// The smallest box around the reaches of the items k, each first cut to the new canvas.
-fn area_at(old: &[u8], new: &[u8], k: u16) -> IRect
-    ensures { λ r. ⌜ r ≡ hull (canvas (sheetOf (now (new .entry)))) (reachAt (now (old .entry)) k ∷ reachAt (now (new .entry)) k ∷ []) ⌝ }
+// A box, and the smallest around it and what the reaches of the items k have in a canvas.
+fn area_with(area: IRect, canvas: IRect, old: &[u8], new: &[u8], k: u16) -> IRect
+    ensures { λ r. ⌜ r ≡ Box.join (Box.join area (meet canvas (reachAt (now (old .entry)) k))) (meet canvas (reachAt (now (new .entry)) k)) ⌝ }
 {
-    let canvas = frame(new);
     let a = canvas.intersect(reach_at(old, k));
     let b = canvas.intersect(reach_at(new, k));
-    join(a, join(b, IRect::new(0, 0, 0, 0)))
+    join(join(area, a), b)
 }
 
-fn refusal() -> Difference
-    ensures { λ r. ⌜ r ≡ refused ⌝ }
+fn refusal(number: u32) -> Difference
+    ensures { λ r. ⌜ r ≡ told number noBox ⌝ }
 {
     Difference {
-        number: 10,
+        number,
         area: IRect::new(0, 0, 0, 0),
     }
 }
 
-// What two sheets of n items tell whose first difference is at d.
-fn changed_at(old: &[u8], new: &[u8], d: usize, n: usize) -> Difference
-    requires { ⌜ (d < n) × (n < 65536) ⌝ }
-    ensures { λ r. ⌜ r ≡ changedBy (canvas (sheetOf (now (new .entry)))) (bothShapes (itemIn (bytesAt (now (old .entry)) d)) (itemIn (bytesAt (now (new .entry)) d)) (changeFrom (now (old .entry)) (now (new .entry)) (n - (d + 1)) (d + 1))) ⌝ }
+// What so many pairs of shapes that differ tell, by the box around what their reaches have in the canvas; an empty one is four zeros.
+fn settled(count: usize, area: IRect) -> Difference
+    ensures { λ r. ⌜ r ≡ settled count (Box.join area noBox) ⌝ }
 {
-    if !shape_at(old, d as u16) {
-        return refusal();
-    }
-    if !shape_at(new, d as u16) {
-        return refusal();
-    }
-    if same_from(old, new, d + 1, n) < n {
-        return refusal();
+    if 32 < count {
+        return refusal(14);
     }
     Difference {
         number: 0,
-        area: area_at(old, new, d as u16),
+        area: join(area, IRect::new(0, 0, 0, 0)),
     }
+}
+
+// What two sheets of n items tell: a push or a pop that differs is refused, wherever it stands.
+fn changed_in(old: &[u8], new: &[u8], n: usize) -> Difference
+    requires { ⌜ n < 65536 ⌝ }
+    ensures { λ r. ⌜ r ≡ changedBy (canvas (sheetOf (now (new .entry)))) (changeFrom (now (old .entry)) (now (new .entry)) n 0) ⌝ }
+{
+    let canvas = frame(new);
+    let mut area = IRect::new(0, 0, 0, 0);
+    let mut count = 0;
+    for k in 0..n {
+        if same_at(old, new, k as u16) {
+            continue;
+        }
+        if !both_shapes(old, new, k as u16) {
+            return refusal(10);
+        }
+        area = area_with(area, canvas, old, new, k as u16);
+        count += 1;
+    }
+    settled(count, area)
 }
 
 // What two sheets tell of how they differ.
@@ -167,16 +174,9 @@ pub fn changed(old: &[u8], new: &[u8]) -> Difference
 {
     let n = u16_at(old, 8);
     if n != u16_at(new, 8) {
-        return refusal();
+        return refusal(10);
     }
-    let d = same_from(old, new, 0, n);
-    if d == n {
-        return Difference {
-            number: 0,
-            area: IRect::new(0, 0, 0, 0),
-        };
-    }
-    changed_at(old, new, d, n)
+    changed_in(old, new, n)
 }
 
 // Whether two sheets agree in width, height and ground.

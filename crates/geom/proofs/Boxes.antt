@@ -10,7 +10,7 @@ use lib.IntN.{ℤ, pos, predℤ}
 use lib.Signed.{leZ, ltZ}
 use Rattle.geom.specs.declared.IRect.{IRect}
 use Rattle.geom.specs.Int.{up, maxZ, minZ}
-use Rattle.geom.proofs.Int.{orderZ, pred-down, down-none, le-up, lt-up, max-left, max-right, max-by, min-left, min-right, min-by}
+use Rattle.geom.proofs.Int.{orderZ, pred-down, down-none, le-up, lt-up, max-left, max-right, max-by, max-assoc, min-left, min-right, min-by, min-assoc}
 use Rattle.geom.proofs.Bools.{and-left, and-right, and-both, or-false, same-test, split}
 use Rattle.geom.specs.Box.{boxOf, inside, meet, empty, noBox, around, join, hull, Holds, inAny, HoldsEach, Smallest}
 
@@ -266,6 +266,31 @@ empty-join a b = go (empty a) (empty b) refl refl
     go true t p q e = refl
     go false true p q e = let z : true ≡ false = cc in cc
     go false false p q e = let f = holds-full (around a b) a (around-left a b) p in let z : true ≡ false = cc in cc
+
+-- the smallest box around three, whichever two are joined first
+around-assoc : (a b c : IRect) → around (around a b) c ≡ around a (around b c)
+unfolding around
+around-assoc a b c =
+    rw (min-assoc (a .x0) (b .x0) (c .x0), min-assoc (a .y0) (b .y0) (c .y0), max-assoc (a .x1) (b .x1) (c .x1), max-assoc (a .y1) (b .y1) (c .y1))
+
+pub join-assoc : (a b c : IRect) → join (join a b) c ≡ join a (join b c)
+unfolding join
+join-assoc a b c = go (empty a) (empty b) (empty c) refl refl refl
+  where
+    full : (a b : IRect) → empty a ≡ false → empty (around a b) ≡ false
+    full a b p = holds-full (around a b) a (around-left a b) p
+
+    go : (s t u : Bool) → empty a ≡ s → empty b ≡ t → empty c ≡ u
+        → cond (empty (cond s b (cond t a (around a b)))) c (cond u (cond s b (cond t a (around a b))) (around (cond s b (cond t a (around a b))) c))
+        ≡ cond s (cond t c (cond u b (around b c))) (cond (empty (cond t c (cond u b (around b c)))) a (around a (cond t c (cond u b (around b c)))))
+    go true t u p q r = rw q
+    go false true u p q r = rw (p, r)
+    go false false true p q r = rw (full a b p, q)
+    go false false false p q r = rw (full a b p, full b c q) (around-assoc a b c)
+
+pub join-none : (b : IRect) → join noBox b ≡ b
+unfolding join noBox empty
+join-none b = refl
 
 each-wider : (wide narrow frame : IRect) (bs : List IRect) → Holds wide narrow → HoldsEach narrow frame bs → HoldsEach wide frame bs
 unfolding HoldsEach

@@ -1,6 +1,6 @@
 -- The order of ℤ, read by `omega`. An integer z is `up z` less `down z`, so an order of integers is an order of sums of
 -- naturals: list `orderZ` in a call of `omega`, and it reads and proves the tests `leZ` and `ltZ`. Assumes nothing.
-use mathlib.Core.Bool.{true, false, cond, true≢false}
+use mathlib.Core.Bool.{Bool, true, false, cond, true≢false}
 use mathlib.Core.Path.{_≡_, refl, sym}
 use Prim.Native.Nat.{ℕ, zero, suc, _+_, _≤_, _<_}
 use native.Mathlib.Omega.{arith}
@@ -112,3 +112,24 @@ max-by P a b p q = split (leZ a b) (λ t. P (cond t b a)) (λ e. q) (λ e. p)
 pub min-by : (P : ℤ → Type 0) (a b : ℤ) → P a → P b → P (minZ a b)
 unfolding minZ
 min-by P a b p q = split (leZ a b) (λ t. P (cond t a b)) (λ e. p) (λ e. q)
+
+-- of three
+pub min-assoc : (a b c : ℤ) → minZ (minZ a b) c ≡ minZ a (minZ b c)
+unfolding minZ
+min-assoc a b c = go (leZ a b) (leZ b c) refl refl
+  where
+    go : (s t : Bool) → leZ a b ≡ s → leZ b c ≡ t → cond (leZ (cond s a b) c) (cond s a b) c ≡ cond (leZ a (cond t b c)) a (cond t b c)
+    go true true p q = let r : leZ a c ≡ true = omega orderZ in rw (p, r)
+    go true false p q = refl
+    go false true p q = rw (p, q)
+    go false false p q = let r : leZ a c ≡ false = omega orderZ in rw (q, r)
+
+pub max-assoc : (a b c : ℤ) → maxZ (maxZ a b) c ≡ maxZ a (maxZ b c)
+unfolding maxZ
+max-assoc a b c = go (leZ a b) (leZ b c) refl refl
+  where
+    go : (s t : Bool) → leZ a b ≡ s → leZ b c ≡ t → cond (leZ (cond s b a) c) c (cond s b a) ≡ cond (leZ a (cond t c b)) (cond t c b) a
+    go true true p q = let r : leZ a c ≡ true = omega orderZ in rw (q, r)
+    go true false p q = rw (p, q)
+    go false true p q = refl
+    go false false p q = let r : leZ a c ≡ false = omega orderZ in rw (p, r)

@@ -57,11 +57,11 @@ module _ (old new : List ℕ) (p : sheetCheck old ≡ verdict 0 0) (q : sheetChe
   other-header h = both ∙ rw h
 
   module _ (h : sameHeader (sheetOf old) (sheetOf new) ≡ true) where
-    by-change : patching format old new n words ≡ cond (eqb (changeNumber (found old new)) 0) (lent format (sheetOf new) n words box) (refuses 10 0)
+    by-change : patching format old new n words ≡ cond (eqb (changeNumber (found old new)) 0) (lent format (sheetOf new) n words box) (refuses (changeNumber (found old new)) 0)
     unfolding patchOf
     by-change = both ∙ rw h (patch-by (found old new) (sheetOf new) n words)
 
-    pub not-allowed : (changeNumber (found old new) ≡ 0 → ⊥) → patching format old new n words ≡ refuses 10 0
+    pub not-allowed : (changeNumber (found old new) ≡ 0 → ⊥) → patching format old new n words ≡ refuses (changeNumber (found old new)) 0
     not-allowed k = by-change ∙ rw (ne-eqb _ 0 k)
 
     module _ (z : changeNumber (found old new) ≡ 0) where

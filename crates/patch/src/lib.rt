@@ -57,7 +57,7 @@ fn draw_in(s: &[u8], bounds: IRect, px: &mut [u32], scratch: &mut [f32])
     render(s, state, px, scratch);
 }
 
-// A patch between two sheets that were accepted: 10, 8, 9, or drawn.
+// A patch between two sheets that were accepted: 10, 14, 8, 9, or drawn.
 fn patch_read(old: &[u8], new: &[u8], px: &mut [u32], scratch: &mut [f32]) -> Answer
     requires { ⌜ BothRead (now old) (now new) ⌝ }
     ensures { λ r. ⌜ Patched zeroWord format (now (old .entry)) (now (new .entry)) (now (px .entry)) (now (scratch .entry)) r (now (px .exit)) (now (scratch .exit)) ⌝ }
@@ -68,7 +68,7 @@ fn patch_read(old: &[u8], new: &[u8], px: &mut [u32], scratch: &mut [f32]) -> An
     let d = changed(old, new);
     let number = d.number;
     if number != 0 {
-        return refusal(10, 0);
+        return refusal(number, 0);
     }
     let lent = lent_number(new, px.len(), scratch.len());
     if lent != 0 {

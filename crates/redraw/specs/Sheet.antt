@@ -74,12 +74,12 @@ pub data Outcome (Shape : Type 0) : Type 0 where
   refuses : ℕ → ℕ → Outcome Shape
   draws : Sheet Shape → IRect → Outcome Shape
 
--- at most one pair of shapes may differ; more are refused by 10
+-- up to 32 pairs of shapes may differ; more are refused by 14
 unfoldable pub few : {Shape : Type 0} → List (Shape × Shape) → Bool
-few l = leb (length l) 1
+few l = leb (length l) 32
 
 unfoldable pub tooMany : {Shape : Type 0} → Outcome Shape
-tooMany = refuses 10 0
+tooMany = refuses 14 0
 
 unfoldable pub canvas : {Shape : Type 0} → Sheet Shape → IRect
 canvas s = record { x0 = pos 0; y0 = pos 0; x1 = pos (s .w); y1 = pos (s .h) }

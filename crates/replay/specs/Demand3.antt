@@ -1,4 +1,4 @@
--- DEMAND 3, whole, at the sheet of document 01. Proved in proofs/Theorem.
+-- DEMAND 3, whole, at the sheet of document 01, for patches of a set (document 02, 2026-01). Proved in proofs/Theorem.
 --
 -- `Painted` and `Patched` are the contracts of `paint` and `patch`, word for word. `Follow` (redraw, specs/Calls): each call is a patch that has
 -- the kept sheet as its old one and finds px as the call before left it. `Always`: what holds after the painting and after each call.
@@ -24,6 +24,7 @@ Demand3 =
     → Follow zeroWord format sheet px′ calls
     -- "every pixel is what a fresh painting of the sheet accepted last would give" (`Shown`, worked from the kept sheet's bytes alone);
     -- "every answer is the document's" (`Right .answers`: the model's, which is fed the two sheets and the lengths of px and scratch alone);
-    -- "no pixel outside the smallest box is altered" (`Confined`), and a refused call alters nothing (`Right .unaltered`);
+    -- "no pixel outside the smallest box is altered" (`Confined`: the box is the smallest around all reaches on the canvas, old and new, of the
+    -- shapes that differ, up to 32), and a refused call alters nothing (`Right .unaltered`);
     -- at the start and after each call, for the whole list
     → Always zeroWord format sheet px′ calls

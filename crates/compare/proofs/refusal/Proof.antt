@@ -10,7 +10,7 @@ new-requires c κs = tt
 
 returns : tie.Need-returns
 unfolding noBox
-returns c = ap (told 10) (c .new .ensures)
+returns c = ap (told (c .before .args .number)) (c .new .ensures)
 
 pub refusal-spec : {M : Type 1} → statement M
 refusal-spec = tie.close (tie.spec new-requires returns)

@@ -1,9 +1,10 @@
 -- `patch::patch_read` meets its contract. Each return by its law. Assumes nothing.
 use mathlib.Core.Path.{_≡_, refl, sym, ap, _∙_}
+use Prim.Native.Nat.{ℕ}
 use borrow.Author.Tests.{not-true, not-false}
 use Rattle.items.specs.Format.{sheetOf, format, zeroWord}
 use Rattle.geom.specs.declared.IRect.{IRect}
-use Rattle.redraw.specs.Sheet.{canvas, draws}
+use Rattle.redraw.specs.Sheet.{canvas, draws, refusal}
 use Rattle.redraw.proofs.Rules.{does-refused, does-drawn}
 use Rattle.compare.specs.Compare.{found, changeBox}
 use Rattle.compare.specs.declared.Difference.{Difference}
@@ -37,10 +38,10 @@ returns-2 : tie.Need-returns-2
 returns-2 c =
     let a = c .before .before .before .before .before .before .before .before .before in
     let d = ap (λ (r : Difference). r .number) (c .before .before .changed .ensures) in
-    does-refused zeroWord format (a .args .px .now) (a .args .scratch .now) _ 10 0 _
+    does-refused zeroWord format (a .args .px .now) (a .args .scratch .now) _ _ 0 _
     (not-allowed (a .args .old .now) (a .args .new .now) (a .pre .first) (a .pre .second) _ _ (sym (c .before .before .before .before .same-header .ensures) ∙ not-false _ (c .before .before .before .if1 .left))
     (λ z. c .before .if2 .taken (d ∙ z)))
-    (c .refusal2 .ensures)
+    (c .refusal2 .ensures ∙ ap (λ (m : ℕ). refusal m 0) d)
 
 lent-number-requires : tie.Need-lent-number-requires
 lent-number-requires c κs = tt

@@ -109,7 +109,7 @@ pub const TOLD: u64 = 100_000;
 
 /// How often each number was returned.
 #[derive(Default)]
-pub struct Numbers([u64; 14]);
+pub struct Numbers([u64; 15]);
 
 impl Numbers {
     pub fn add(&mut self, number: u32) {

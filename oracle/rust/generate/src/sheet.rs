@@ -107,8 +107,8 @@ fn painting(random: &mut Random) -> Given {
 
 fn patching(kept: &Made, random: &mut Random) -> Given {
     let way = match random.below(8) {
-        0 => random.of(&[DAMAGED_NEW, DAMAGED_NEW, DAMAGED_OLD]),
-        1..=3 => change::way(random),
+        0 | 1 => random.of(&[DAMAGED_NEW, DAMAGED_NEW, DAMAGED_OLD]),
+        2..=4 => change::way(random),
         _ => random.below(5) as usize,
     };
     let (mut old, mut new) = change::patch(kept, random, way);
@@ -149,14 +149,14 @@ pub fn paintings() -> Stored {
     Stored { first: PAINT, names: &["paint"], width: WIDTH, cases }
 }
 
-/// Document 01's examples, then lists of patches, each on the sheet that the one before left.
+/// Document 01's examples that fit, then lists of patches, each on the sheet that the one before left.
 pub fn patches() -> Stored {
     let mut random = Random(SEED + 11);
     let examples = fixed::patches().into_iter().map(|p| {
         let sound = Sheet::read(&p.old).is_ok_and(|old| old.w * old.h == p.px);
         Given { f: if sound { AFTER } else { PATCH }, old: p.old, new: p.new, px: p.px, scratch: p.scratch }
     });
-    let mut cases: Vec<Vec<u32>> = examples.map(|given| given.case(&mut random)).collect();
+    let mut cases: Vec<Vec<u32>> = examples.filter(Given::fits).map(|given| given.case(&mut random)).collect();
     let mut kept = sound(&mut random);
     while cases.len() < CASES {
         if random.below(12) == 0 {

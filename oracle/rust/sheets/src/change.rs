@@ -3,15 +3,16 @@ use crate::{
     damage::damaged,
     item::{floats, paint_at},
     make::{any_shape, pop, push, shape},
-    Item, Made, MOST_ITEMS,
+    Item, Made, MOST_CHANGES, MOST_ITEMS,
 };
 use answers::random::Random;
 use kash::geom::IRect;
 
 /// The ways, in the order of `WAYS`.
-pub const WAYS: [&str; 15] = [
-    "moved", "recoloured", "resized", "a bit altered", "another shape", "no difference", "two items", "header", "a clip", "count",
-    "damaged new sheet", "px length", "scratch length", "damaged old sheet", "another old sheet",
+pub const WAYS: [&str; 17] = [
+    "moved", "recoloured", "resized", "a bit altered", "another shape", "no difference", "several shapes", "shapes swapped",
+    "several and a clip", "header", "a clip", "count", "damaged new sheet", "px length", "scratch length", "damaged old sheet",
+    "another old sheet",
 ];
 const MOVED: usize = 0;
 const RECOLOURED: usize = 1;
@@ -19,16 +20,18 @@ const RESIZED: usize = 2;
 const A_BIT: usize = 3;
 const ANOTHER: usize = 4;
 const SAME: usize = 5;
-const TWO: usize = 6;
-const HEADER: usize = 7;
-const CLIP: usize = 8;
-const COUNT: usize = 9;
-pub const DAMAGED_NEW: usize = 10;
-pub const PX: usize = 11;
-pub const SCRATCH: usize = 12;
+const SEVERAL: usize = 6;
+const SWAPPED: usize = 7;
+const SEVERAL_AND_CLIP: usize = 8;
+const HEADER: usize = 9;
+const CLIP: usize = 10;
+const COUNT: usize = 11;
+pub const DAMAGED_NEW: usize = 12;
+pub const PX: usize = 13;
+pub const SCRATCH: usize = 14;
 /// From here on the old sheet is not the kept one, so the call is none of the list's.
-pub const APART: usize = 13;
-pub const DAMAGED_OLD: usize = 13;
+pub const APART: usize = 15;
+pub const DAMAGED_OLD: usize = 15;
 
 fn put(b: &mut [u8], at: usize, x: f32) {
     if x.abs() <= 8192.0 {
@@ -91,6 +94,35 @@ fn at<'a>(made: &'a mut Made, random: &mut Random, shapes: bool) -> Option<&'a m
 fn one_shape(made: &mut Made, random: &mut Random, way: usize) {
     let (sides, canvas) = (made.sides(), IRect::new(0, 0, made.w as i32, made.h as i32));
     let Some(b) = at(made, random, true) else { return };
+    alter(b, sides, canvas, random, way);
+}
+
+/// Alters up to 40 shapes, each at a place of its own, often about as many as may differ.
+fn several(made: &mut Made, random: &mut Random) {
+    let (sides, canvas) = (made.sides(), IRect::new(0, 0, made.w as i32, made.h as i32));
+    let mut places: Vec<usize> = (0..made.items.len()).filter(|i| made.items[*i][0] > 2).collect();
+    let any = random.below(41) as usize;
+    let many = random.of(&[any, any, 2, 3, MOST_CHANGES - 1, MOST_CHANGES, MOST_CHANGES + 1, MOST_CHANGES + 2]);
+    while places.len() > many {
+        places.swap_remove(random.below(places.len() as u32) as usize);
+    }
+    for i in places {
+        let way = random.of(&[MOVED, RECOLOURED, RESIZED, ANOTHER]);
+        alter(&mut made.items[i], sides, canvas, random, way);
+    }
+}
+
+/// Two shapes change places.
+fn swapped(made: &mut Made, random: &mut Random) {
+    let shapes: Vec<usize> = (0..made.items.len()).filter(|i| made.items[*i][0] > 2).collect();
+    if !shapes.is_empty() {
+        let (a, b) = (random.of(&shapes), random.of(&shapes));
+        made.items.swap(a, b);
+    }
+}
+
+/// Alters one shape in a way. One that has nothing on the canvas is mostly replaced.
+fn alter(b: &mut Vec<u8>, sides: [i32; 2], canvas: IRect, random: &mut Random, way: usize) {
     let lost = Item::of(b).reach().intersect(&canvas).is_empty() && random.below(4) > 0;
     match if lost { ANOTHER } else { way } {
         MOVED => moved(b, random),
@@ -118,11 +150,11 @@ pub fn changed(kept: &Made, random: &mut Random, way: usize) -> Made {
     match way {
         MOVED..=ANOTHER => one_shape(&mut made, random, way),
         SAME => (),
-        TWO => {
-            for _ in 0..2 {
-                let way = random.of(&[MOVED, RECOLOURED, RESIZED, ANOTHER]);
-                one_shape(&mut made, random, way);
-            }
+        SEVERAL => several(&mut made, random),
+        SWAPPED => swapped(&mut made, random),
+        SEVERAL_AND_CLIP => {
+            several(&mut made, random);
+            clip(&mut made, random);
         }
         HEADER => match random.below(4) {
             0 => made.w = 1 + random.below(40) as u16,
@@ -150,8 +182,9 @@ pub fn changed(kept: &Made, random: &mut Random, way: usize) -> Made {
 
 /// A way at random: mostly one that is accepted.
 pub fn way(random: &mut Random) -> usize {
-    match random.below(3) {
-        0 => random.below(WAYS.len() as u32) as usize,
+    match random.below(6) {
+        0 | 1 => random.below(WAYS.len() as u32) as usize,
+        2 => SEVERAL,
         _ => random.below(5) as usize,
     }
 }

@@ -115,7 +115,8 @@ pub fn patches() -> Vec<Patch> {
     add(red(0.0), red(0.0), 4, 0, 0, 0, [0; 4]);
     add(red(-9.0), red(9.0), 4, 0, 0, 0, [0; 4]);
     add(red(-9.0), red(3.0), 4, 0, 0, 0, [3, 0, 4, 1]);
-    add(two(0.0, 1.0), two(2.0, 3.0), 4, 0, 10, 0, [0; 4]);
+    add(two(0.0, 1.0), two(2.0, 3.0), 4, 0, 0, 0, [0, 0, 4, 1]);
+    add(two(0.0, 9.0), two(-9.0, 1.0), 4, 0, 0, 0, [0, 0, 2, 1]);
     add(red(0.0), two(0.0, 1.0), 4, 0, 10, 0, [0; 4]);
     add(clipped(0.0), clipped(1.0), 4, 0, 10, 0, [0; 4]);
     add(red(0.0), with(red(0.0), 4, 1), 4, 0, 10, 0, [0; 4]);
@@ -128,6 +129,21 @@ pub fn patches() -> Vec<Patch> {
     add(squared(0.0), squared(2.0), 16, 26, 0, 0, [0, 0, 3, 1]);
     add(squared(0.0), squared(0.0), 16, 25, 9, 0, [0; 4]);
     add(squared(0.0), squared(0.0), 16, 30, 0, 0, [0; 4]);
+    // Two shapes change places; a shape grows, so that the one after it stands at another offset and does not differ.
+    let green = [0, 255, 0, 255];
+    let [under, upper] = [fill(0.0, 0.0, 2.0, 1.0, RED), fill(1.0, 0.0, 2.0, 1.0, green)];
+    add(made(4, 1, vec![under.clone(), upper.clone()]).bytes(), made(4, 1, vec![upper, under]).bytes(), 4, 0, 0, 0, [0, 0, 3, 1]);
+    let after = |first: Vec<u8>| made(4, 1, vec![first, fill(3.0, 0.0, 1.0, 1.0, RED)]).bytes();
+    add(after(polygon(&[], RED)), after(fill(0.0, 0.0, 1.0, 1.0, RED)), 4, 0, 0, 0, [0, 0, 1, 1]);
+    // 32 shapes may differ, 33 may not; a push that differs is 10, wherever it stands.
+    let many = |n: usize, x: f32, clip: f32| {
+        let shapes = vec![fill(x, 0.0, 1.0, 1.0, RED); n];
+        made(4, 1, [shapes, vec![push(clip, 0.0, 2.0, 1.0)]].concat()).bytes()
+    };
+    add(many(32, 0.0, 0.0), many(32, 2.0, 0.0), 4, 0, 0, 0, [0, 0, 3, 1]);
+    add(many(33, 0.0, 0.0), many(33, 2.0, 0.0), 4, 0, 14, 0, [0; 4]);
+    add(many(33, 0.0, 0.0), many(33, 2.0, 1.0), 4, 0, 10, 0, [0; 4]);
+    add(many(33, 0.0, 0.0), many(33, 2.0, 0.0), 3, 0, 14, 0, [0; 4]);
     let triangle = |x: f32| made(4, 4, vec![polygon(&[-1994.0, 1.0, x, 1.0, x, 1999.0], RED)]).bytes();
     add(triangle(4.5), triangle(5.0), 16, 0, 0, 0, [0; 4]);
     all

@@ -21,6 +21,8 @@ pub const MOST_ITEMS: usize = 1_024;
 pub const MOST_SIDE: usize = 2_048;
 pub const MOST_SAVED: usize = 16;
 pub const MOST_POINTS: usize = 64;
+/// Change request 2026-01: the most shapes in which the sheets of a patch may differ.
+pub const MOST_CHANGES: usize = 32;
 
 /// The two bytes from a place on, the lowest first.
 pub fn half(bytes: &[u8], at: usize) -> usize {

@@ -1,5 +1,5 @@
 //! What painting and patching answer, and what they leave of scratch and pixels, by document 01.
-use crate::{item::EMPTY, Fault, Sheet};
+use crate::{item::EMPTY, Fault, Sheet, MOST_CHANGES};
 use kash::geom::IRect;
 
 /// What a sheet call returns, as the library returns it.
@@ -77,7 +77,7 @@ pub fn paint(bytes: &[u8], px: usize, scratch: usize) -> Expected {
     }
 }
 
-/// The smallest box around both, an empty one counting for nothing; four zeros where both are empty.
+/// The smallest box around both, an empty one counting for nothing.
 fn around(a: IRect, b: IRect) -> IRect {
     match (a.is_empty(), b.is_empty()) {
         (true, true) => EMPTY,
@@ -87,20 +87,21 @@ fn around(a: IRect, b: IRect) -> IRect {
     }
 }
 
-/// The box of a patch, or none where the sheets differ otherwise than allowed.
-fn differing(old: &Sheet, new: &Sheet) -> Option<IRect> {
+/// The box of a patch, or its number: 10 where the sheets differ in something other than a shape, then 14.
+fn differing(old: &Sheet, new: &Sheet) -> Result<IRect, u32> {
     if (old.w, old.h, old.ground, old.items.len()) != (new.w, new.h, new.ground, new.items.len()) {
-        return None;
+        return Err(10);
     }
     let canvas = IRect::new(0, 0, new.w as i32, new.h as i32);
-    let mut differ = old.items.iter().zip(&new.items).filter(|(a, b)| a.1 != b.1);
-    match (differ.next(), differ.next()) {
-        (None, _) => Some(EMPTY),
-        (Some((a, b)), None) if a.0.is_shape() && b.0.is_shape() => {
-            Some(around(a.0.reach().intersect(&canvas), b.0.reach().intersect(&canvas)))
-        }
-        _ => None,
+    let differ: Vec<_> = old.items.iter().zip(&new.items).filter(|(a, b)| a.1 != b.1).collect();
+    if differ.iter().any(|(a, b)| !a.0.is_shape() || !b.0.is_shape()) {
+        return Err(10);
     }
+    if differ.len() > MOST_CHANGES {
+        return Err(14);
+    }
+    let reaches = differ.iter().flat_map(|(a, b)| [a.0.reach(), b.0.reach()]);
+    Ok(reaches.fold(EMPTY, |area, reach| around(area, reach.intersect(&canvas))))
 }
 
 /// Patching from an old sheet to a new one.
@@ -109,8 +110,8 @@ pub fn patch(old: &[u8], new: &[u8], px: usize, scratch: usize) -> Expected {
     match sheets {
         Err(fault) => Expected::refused(fault),
         Ok((old, new)) => match differing(&old, &new) {
-            None => Expected::refused(Fault { number: 10, item: 0 }),
-            Some(area) => lent(new, area, px, scratch),
+            Err(number) => Expected::refused(Fault { number, item: 0 }),
+            Ok(area) => lent(new, area, px, scratch),
         },
     }
 }

@@ -1,6 +1,6 @@
 //! Lists of patches after an accepted painting, beside the unchanged Rust: `patches CALLS`, or `patches list N` for one list of them.
 //! After each call every pixel must be that of the sheet accepted last, painted afresh. Exit status 1 where anything differs, or where a
-//! number of document 01 or a way of altering a sheet comes too seldom.
+//! number of documents 01 and 02, a way of altering a sheet or a number of differing shapes comes too seldom.
 use answers::random::{Random, SEED};
 use calls::{dirty, enough, fault, Memory, Numbers, TOLD};
 use sheets::{
@@ -9,6 +9,15 @@ use sheets::{
 };
 use std::{env, process::exit, time::Instant};
 
+/// How many shapes may differ in a patch: from a number on.
+const SETS: [(usize, &str); 7] = [(0, "none"), (1, "one"), (2, "2 to 15"), (16, "16 to 31"), (32, "32"), (33, "33"), (34, "34 to 40")];
+
+/// The number of items that differ in two sheets of one count.
+fn differing(old: &[u8], new: &[u8]) -> usize {
+    let items = |bytes: &[u8]| Made::of(&Sheet::read(bytes).expect("a sound sheet")).items;
+    items(old).iter().zip(&items(new)).filter(|(a, b)| a != b).count()
+}
+
 #[derive(Default)]
 struct Run {
     memory: Memory,
@@ -16,6 +25,8 @@ struct Run {
     accepted: [u64; WAYS.len()],
     refused: [u64; WAYS.len()],
     empty: u64,
+    /// Accepted patches, and patches refused by 14, by how many shapes differ, in the order of `SETS`.
+    sets: [u64; SETS.len()],
     paintings: u64,
     calls: u64,
     differ: u64,
@@ -37,7 +48,8 @@ impl Run {
     }
 
     fn painted(&mut self, name: &str, random: &mut Random) -> Ticket {
-        let kept = make::sheet(random, 32, 14);
+        let most = if random.below(3) == 0 { 70 } else { 14 };
+        let kept = make::sheet(random, 32, most);
         let bytes = kept.bytes();
         let (sheet, px) = (Sheet::read(&bytes).expect("a sound sheet"), vec![random.word(); kept.area()]);
         let scratch = dirty(enough(sheet.need(), random), random);
@@ -72,6 +84,10 @@ impl Run {
         let after = expected.pixels(&px, fresh.as_deref());
         let left = self.memory.call(Some(&old), &new, &px, &scratch, random);
         self.count(way, &expected.answer);
+        if [0, 14].contains(&expected.answer.number) {
+            let n = differing(&old, &new);
+            self.sets[SETS.iter().rposition(|(from, _)| *from <= n).expect("0 is the first")] += 1;
+        }
         if let Some(what) = fault(&left, &expected, &after, &scratch) {
             self.differs(name, what, format!("{:?} instead of {:?}\n  old {old:02x?}\n  new {new:02x?}", left.answer, expected.answer));
         }
@@ -155,16 +171,19 @@ fn main() {
     for (way, name) in WAYS.iter().enumerate().filter(|_| told) {
         println!("{name:18} {:>9} accepted, {:>9} refused", run.accepted[way], run.refused[way]);
     }
-    let least = calls / 2000;
-    let seldom = run.numbers.report(&[1, 2, 3, 4, 5, 6, 7, 8, 9, 10, 13], least, told);
+    for ((_, name), times) in SETS.iter().zip(run.sets).filter(|_| told) {
+        println!("{name:>8} shapes differ {times:>9} times");
+    }
+    let mut seldom = run.numbers.report(&[1, 2, 3, 4, 5, 6, 7, 8, 9, 10, 13], calls / 2000, told);
+    seldom.extend(run.numbers.report(&[14], calls / 1000, false));
     if told {
         println!("accepted with an empty box {} times", run.empty);
     }
     println!("patches: {} calls in {lists} lists, each after a painting, {} differences", run.calls, run.differ);
     if !seldom.is_empty() {
-        println!("less than {least} times: numbers {seldom:?}");
+        println!("too seldom: numbers {seldom:?}");
     }
-    let unseen = (0..WAYS.len()).any(|way| run.accepted[way] + run.refused[way] == 0);
+    let unseen = (0..WAYS.len()).any(|way| run.accepted[way] + run.refused[way] == 0) || run.sets.contains(&0);
     if run.differ > 0 || !seldom.is_empty() || unseen {
         exit(1);
     }

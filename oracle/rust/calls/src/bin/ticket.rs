@@ -1,9 +1,11 @@
-//! Speed of painting and patching a ticket beside the unchanged Rust: `ticket SHEET OTHER`, two files of sheets that differ in one shape.
-//! The smallest time of 200 rounds, the two in turn. The Rust draws items that were read before, on a canvas that is there. Then what a
-//! patch costs by the area of its box and by the number of items, and what checking a sheet of about 60,000 bytes costs beside painting it.
+//! Speed of painting and patching a ticket beside the unchanged Rust: `ticket SHEET OTHER FOLDER`, two files of sheets that differ in one
+//! shape, and a folder of four sheets, each with one shape other than in the one before. The smallest time of 200 rounds, the two in turn.
+//! The Rust draws items that were read before, on a canvas that is there. Then what a patch costs by the area of its box and by the number
+//! of items, what one patch of three shapes costs beside three patches of one, and what checking a sheet of about 60,000 bytes costs
+//! beside painting it.
 use calls::raw::{maldjupp_paint, maldjupp_patch};
 use kash::{color::Color, gfx::Canvas};
-use sheets::{patch, Sheet};
+use sheets::{patch, Answer, Sheet};
 use std::{env, fs, hint::black_box, time::Instant};
 
 const ROUNDS: usize = 200;
@@ -21,8 +23,8 @@ fn by_rust(sheet: &Sheet, canvas: &mut Canvas) {
     sheet.items.iter().for_each(|(item, _)| item.draw(canvas));
 }
 
-/// A sheet 640 × 400 of n fills, 12 × 12 each; the last is a square of a side, at a column.
-fn fills(n: usize, column: f32, side: f32) -> Vec<u8> {
+/// A sheet 640 × 400 of n fills: 12 × 12 each, and then some that are given, each x, y, w, h and colour.
+fn sheet_of(n: usize, last: &[([f32; 4], [u8; 3])]) -> Vec<u8> {
     let mut out: Vec<u8> = [640u16, 400].iter().flat_map(|v| v.to_le_bytes()).collect();
     out.extend([240, 240, 240, 0]);
     out.extend((n as u16).to_le_bytes());
@@ -31,15 +33,29 @@ fn fills(n: usize, column: f32, side: f32) -> Vec<u8> {
         out.extend(((12 + 4 * n + 52 * k) as u16).to_le_bytes());
         out.extend(52u16.to_le_bytes());
     }
-    for k in 0..n {
-        let last = k + 1 == n;
-        let (x, y, w) = if last { (column, 20.0, side) } else { ((k * 37 % 620) as f32 + 0.5, (k * 53 % 380) as f32 + 0.25, 12.0) };
+    let plain = (0..n - last.len()).map(|k| ([(k * 37 % 620) as f32 + 0.5, (k * 53 % 380) as f32 + 0.25, 12.0, 12.0], [200, (k % 256) as u8, 60]));
+    for ([x, y, w, h], [r, g, b]) in plain.chain(last.iter().copied()) {
         out.extend([3, 0, 0, 0]);
-        out.extend([x, y, w, w, 3.0f32].iter().flat_map(|v| v.to_le_bytes()));
-        out.extend([0, 0, 0, 0, 200, (k % 256) as u8, 60, 255]);
+        out.extend([x, y, w, h, 3.0f32].iter().flat_map(|v| v.to_le_bytes()));
+        out.extend([0, 0, 0, 0, r, g, b, 255]);
         out.extend([0; 20]);
     }
     out
+}
+
+/// Of n fills the last is a square of a side.
+fn fills(n: usize, side: f32) -> Vec<u8> {
+    sheet_of(n, &[([20.0, 20.0, side, side], [200, ((n - 1) % 256) as u8, 60])])
+}
+
+/// Four sheets of n fills, of which the last three, in a corner of a terminal, are gross bar, tare bar and grade: each sheet has one of
+/// them other than in the one before.
+fn weighing(n: usize) -> [Vec<u8>; 4] {
+    [0, 1, 2, 3].map(|settled| {
+        let bar = |place: usize, y: f32| ([20.0, y, if place < settled { 44.0 } else { 30.0 }, 4.0], [32, 122, 78]);
+        let grade = if settled == 3 { [184, 115, 51] } else { [236, 235, 230] };
+        sheet_of(n, &[bar(0, 40.0), bar(1, 46.0), ([20.0, 20.0, 44.0, 16.0], grade)])
+    })
 }
 
 /// The smallest times of painting a sheet, of having it refused by 8 after its checks, and of patching it to another.
@@ -59,31 +75,71 @@ fn costs(sheet: &[u8], other: &[u8]) -> [f64; 3] {
     least
 }
 
+/// The smallest times of the three patches from each of four sheets to the next, and of one patch from the first to the last; its box.
+fn sets(sheets: &[Vec<u8>; 4]) -> ([f64; 4], Answer) {
+    let read = sheets.each_ref().map(|s| Sheet::read(s).expect("a sound sheet"));
+    let mut px = read[0].fresh();
+    let mut scratch = vec![0f32; read.iter().map(Sheet::need).max().unwrap_or(0)];
+    let fresh = read[3].fresh();
+    let mut least = [f64::MAX; 4];
+    let mut answer = None;
+    for _ in 0..ROUNDS {
+        for (i, (from, to)) in [(0, 1), (1, 2), (2, 3), (0, 3)].into_iter().enumerate() {
+            px.copy_from_slice(&read[from].fresh());
+            let (old, new) = (&sheets[from], &sheets[to]);
+            micros(&mut least[i], || {
+                let (p, m, s, k) = (px.as_mut_ptr(), px.len(), scratch.as_mut_ptr(), scratch.len());
+                answer = Some(black_box(unsafe { maldjupp_patch(old.as_ptr(), old.len(), new.as_ptr(), new.len(), p, m, s, k) }));
+            });
+            assert_eq!(answer.map(|a| a.number), Some(0));
+        }
+        assert!(px == fresh);
+    }
+    (least, answer.expect("a round"))
+}
+
+fn sets_by_items(ticket: &[Vec<u8>; 4]) {
+    println!("\n| gross bar, tare bar and grade, box | three patches µs | one patch µs | ratio | target |\n|---|---|---|---|---|");
+    let mut row = |name: &str, sheets: &[Vec<u8>; 4], target: &str| {
+        let ([gross, tare, grade, at_once], area) = sets(sheets);
+        let (three, w, h) = (gross + tare + grade, area.x1 - area.x0, area.y1 - area.y0);
+        println!("| {name}, {w} × {h} | {gross:.1} + {tare:.1} + {grade:.1} = {three:.1} | {at_once:.1} | {:.2} | {target} |", at_once / three);
+    };
+    for n in [20, 60, 200, 1000] {
+        row(&format!("{n} items"), &weighing(n), "0.45");
+    }
+    row("the ticket of 65 items", ticket, "");
+}
+
 fn sizes() {
     println!("\n| patch, 60 items, box | painted µs | patched µs | ratio |\n|---|---|---|---|");
     for side in [8, 32, 64, 128, 256] {
-        let [painted, _, patched] = costs(&fills(60, 20.0, side as f32), &fills(60, 20.0, side as f32 - 1.0));
+        let [painted, _, patched] = costs(&fills(60, side as f32), &fills(60, side as f32 - 1.0));
         println!("| {side} × {side} | {painted:.1} | {patched:.1} | {:.3} |", patched / painted);
     }
     println!("\n| patch, box 32 × 32, items | painted µs | patched µs | ratio |\n|---|---|---|---|");
     for n in [10, 60, 200, 500, 1000] {
-        let [painted, _, patched] = costs(&fills(n, 20.0, 32.0), &fills(n, 20.0, 31.0));
+        let [painted, _, patched] = costs(&fills(n, 32.0), &fills(n, 31.0));
         println!("| {n} | {painted:.1} | {patched:.1} | {:.3} |", patched / painted);
     }
-    let sheet = fills(1024, 20.0, 32.0);
+    let sheet = fills(1000, 32.0);
+    println!("\n| patch between equal sheets, items | patched µs |\n|---|---|\n| 1000 | {:.1} |", costs(&sheet, &sheet)[2]);
+    let sheet = fills(1024, 32.0);
     let [painted, checked, _] = costs(&sheet, &sheet);
     println!("\n| sheet of {} bytes | µs |\n|---|---|\n| painted | {painted:.1} |\n| read and checked | {checked:.1}, {:.1} % |", sheet.len(), 100.0 * checked / painted);
 }
 
 fn main() {
-    let file = |i: usize| fs::read(env::args().nth(i).expect("usage: ticket SHEET OTHER")).expect("a file");
+    let word = |i: usize| env::args().nth(i).expect("usage: ticket SHEET OTHER FOLDER");
+    let file = |i: usize| fs::read(word(i)).expect("a file");
+    let settled = ["0-before", "1-gross", "2-tare", "3-grade"].map(|name| fs::read(format!("{}/{name}.sheet", word(3))).expect("a file"));
     let bytes = [file(1), file(2)];
     let sheets = bytes.each_ref().map(|b| Sheet::read(b).expect("a sound sheet"));
     let mut canvas = Canvas::new(sheets[0].w as i32, sheets[0].h as i32);
     let mut px = canvas.px.clone();
     let mut scratch = vec![0f32; sheets[0].need().max(sheets[1].need())];
     let area = patch(&bytes[0], &bytes[1], px.len(), scratch.len()).answer;
-    assert_eq!(area.number, 0, "the sheets differ in more than a shape");
+    assert_eq!(area.number, 0, "the sheets differ in more than shapes");
     let (mut painted, mut patched, mut rust) = (f64::MAX, f64::MAX, f64::MAX);
     for round in 0..ROUNDS {
         let (old, new) = (&bytes[round % 2], &bytes[1 - round % 2]);
@@ -102,4 +158,5 @@ fn main() {
     println!("| painted | {painted:.0} | {rust:.0} | {:.2} |", painted / rust);
     println!("| patched, box {w} × {h}; the Rust paints it anew | {patched:.0} | {rust:.0} | {:.2} |", patched / rust);
     sizes();
+    sets_by_items(&settled);
 }

@@ -1,0 +1,147 @@
+-- `compare::changed_in` meets its contract. What the items seen so far tell with those that are left is what all of them tell. Assumes nothing.
+use Prim.Native.Nat.{_+_, _-_, _≤_}
+use mathlib.Core.Path.{_≡_, sym, ap, _∙_}
+use native.Mathlib.Nat.{sub-zero, add-zero}
+use native.Mathlib.Omega.{arith}
+use borrow.Author.Tests.{not-true, not-false}
+use Rattle.geom.specs.Box.{noBox, hull}
+use Rattle.redraw.specs.Sheet.{reaches}
+use Rattle.sheet.specs.Check.{bytesAt}
+use Rattle.items.specs.Format.{itemIn}
+use Rattle.compare.specs.Compare.{changeFrom, changedBy}
+use Rattle.compare.proofs.Changes.{toldAfter, told-first, told-other, told-pair, same-turn, other-turn, no-turn}
+use Rattle.compare.proofs.changed_in.Statement.{statement}
+use Rattle.compare.proofs.changed_in.Tie as tie
+
+abbrev Inv-loop : tie.InvT-loop
+Inv-loop old new n canvas area₀ count₀ k₀ area count k =
+    (k ≤ n) × (count ≤ k) × (toldAfter canvas count area (changeFrom old new (n - k) k) ≡ changedBy canvas (changeFrom old new n 0))
+
+abbrev μ-loop : tie.MeasureT-loop
+μ-loop old new n canvas area₀ count₀ k₀ area count k = n - k
+
+frame-requires : tie.Need-frame-requires Inv-loop μ-loop
+frame-requires c κs = tt
+
+new-requires : tie.Need-new-requires Inv-loop μ-loop
+new-requires c κs = tt
+
+loop-holds : tie.Need-loop-holds Inv-loop μ-loop
+unfolding noBox
+loop-holds c =
+    let a = c .before .before .before .before .args in
+    (omega arith, omega arith, rw (sub-zero (a .n), c .new .ensures) (sym (told-first (c .before .frame .result) (changeFrom (a .old .now) (a .new .now) (a .n) 0))))
+
+cast-same-at : tie.Need-cast-same-at Inv-loop μ-loop
+cast-same-at c = record { fits = omega arith }
+
+same-at-requires : tie.Need-same-at-requires Inv-loop μ-loop
+same-at-requires c κs = tt
+
+add-k : tie.Need-add-k Inv-loop μ-loop
+add-k c = omega arith
+
+loop-less : tie.Need-loop-less Inv-loop μ-loop
+loop-less c = omega arith
+
+-- the items k are the same
+loop-again : tie.Need-loop-again Inv-loop μ-loop
+loop-again c =
+    let l = c .before .before .before in
+    let a = l .before .before .before .before .before .args in
+    let k = l .loop .k in
+    let e = same-turn (a .old .now) (a .new .now) (a .n - k) (a .n - (k + 1)) k (omega arith) (sym (c .before .same-at .ensures) ∙ c .if1 .taken) in
+    (omega arith, omega arith, rw (← e) (l .loop .inv .2))
+
+cast-both-shapes : tie.Need-cast-both-shapes Inv-loop μ-loop
+cast-both-shapes c = record { fits = omega arith }
+
+both-shapes-requires : tie.Need-both-shapes-requires Inv-loop μ-loop
+both-shapes-requires c κs = tt
+
+refusal-requires : tie.Need-refusal-requires Inv-loop μ-loop
+refusal-requires c κs = tt
+
+-- one of the items k is no shape
+returns : tie.Need-returns Inv-loop μ-loop
+returns c =
+    let l = c .before .before .before .before .before .before in
+    let a = l .before .before .before .before .before .args in
+    let old = a .old .now in
+    let new = a .new .now in
+    let k = l .loop .k in
+    let m = a .n - (k + 1) in
+    let e = other-turn old new (a .n - k) m k (omega arith) (sym (c .before .before .before .before .same-at .ensures) ∙ c .before .before .before .if1 .left) in
+    let o = told-other (l .before .before .frame .result) (l .loop .count) (l .loop .area) (itemIn (bytesAt old k)) (itemIn (bytesAt new k)) (changeFrom old new m (k + 1))
+    (sym (c .before .before .both-shapes .ensures) ∙ not-true _ (c .before .if2 .taken)) in
+    let i = rw e at (l .loop .inv .2) in
+    c .refusal .ensures ∙ sym o ∙ i ∙ rw (l .before .before .frame .ensures)
+
+cast-area-with : tie.Need-cast-area-with Inv-loop μ-loop
+cast-area-with c = record { fits = omega arith }
+
+area-with-requires : tie.Need-area-with-requires Inv-loop μ-loop
+area-with-requires c κs = tt
+
+add-count : tie.Need-add-count Inv-loop μ-loop
+add-count c = omega arith
+
+add-k-2 : tie.Need-add-k-2 Inv-loop μ-loop
+add-k-2 c = omega arith
+
+loop-less-2 : tie.Need-loop-less-2 Inv-loop μ-loop
+loop-less-2 c = omega arith
+
+-- both are shapes
+loop-again-2 : tie.Need-loop-again-2 Inv-loop μ-loop
+loop-again-2 c =
+    let l = c .before .before .before .before .before .before in
+    let a = l .before .before .before .before .before .args in
+    let old = a .old .now in
+    let new = a .new .now in
+    let k = l .loop .k in
+    let m = a .n - (k + 1) in
+    let e = other-turn old new (a .n - k) m k (omega arith) (sym (c .before .before .before .before .same-at .ensures) ∙ c .before .before .before .if1 .left) in
+    let p = told-pair (l .before .before .frame .result) (l .loop .count) (l .loop .area) (bytesAt old k) (bytesAt new k) (changeFrom old new m (k + 1))
+    (sym (c .before .before .both-shapes .ensures) ∙ not-false _ (c .before .if2 .left)) in
+    (omega arith, omega arith, rw (c .area-with .ensures) (sym p ∙ rw (← e) (l .loop .inv .2)))
+
+settled-requires : tie.Need-settled-requires Inv-loop μ-loop
+settled-requires c κs = tt
+
+returns-2 : tie.Need-returns-2 Inv-loop μ-loop
+unfolding toldAfter reaches hull
+returns-2 c =
+    let l = c .before .before in
+    let a = l .before .before .before .before .before .args in
+    let k = l .loop .k in
+    let e = no-turn (a .old .now) (a .new .now) (a .n - k) k (omega arith) in
+    let i = rw (e, add-zero) at (l .loop .inv .2) in
+    c .settled .ensures ∙ i ∙ rw (l .before .before .frame .ensures)
+
+pub changed-in-spec : {M : Type 1} → statement M
+changed-in-spec =
+    tie.close
+    (tie.spec
+    Inv-loop
+    μ-loop
+    frame-requires
+    new-requires
+    loop-holds
+    cast-same-at
+    same-at-requires
+    add-k
+    loop-less
+    loop-again
+    cast-both-shapes
+    both-shapes-requires
+    refusal-requires
+    returns
+    cast-area-with
+    area-with-requires
+    add-count
+    add-k-2
+    loop-less-2
+    loop-again-2
+    settled-requires
+    returns-2)

@@ -1,0 +1,114 @@
+-- Patches of a set (change request 2026-01), worked by the definitions: each side computes. Assumes nothing.
+use Prim.Native.Nat.{ℕ, zero, suc, _+_, _*_, _/_, _%_}
+use mathlib.Core.Path.{_≡_, refl}
+use mathlib.Core.List.{List, [], _∷_, _++_}
+use lib.IntN.{pos}
+use lib.ListN.{length, replicate}
+use lib.Ieee.{ofBits, round, add, sub, mul, lt, le, eq, ne, neg, ofInt, toSigned, toUnsigned}
+use Rattle.mathf.specs.Whole.{floorOf, ceilOf}
+use Rattle.geom.specs.Int.{maxZ, minZ}
+use Rattle.geom.specs.Box.{boxOf, meet, empty, noBox, around, join, hull}
+use Rattle.geom.specs.declared.IRect.{IRect}
+use Rattle.geom.specs.Plane.{floatOk, noArea, outerOf}
+use Rattle.fill.specs.Fill.{fillReach}
+use Rattle.stroke.specs.Stroke.{strokeReach}
+use Rattle.sheet.specs.Bytes.{allAt}
+use Rattle.sheet.specs.Kinds.{layoutAt, lengthOk, pointsOk, paintBytesOk, bytesOk, paintFloatsOk, floatsOk, savedOk, itemNumber}
+use Rattle.sheet.specs.Check as checks
+use Rattle.sheet.specs.Check.{headerOk, pairsFrom, pairsOk, headNumber, numberAt, depthAt, sheetCheck}
+use Rattle.items.specs.Items.{readPaint, readItem}
+use Rattle.items.specs.Format.{reachOf, needOf, drawnAs, itemsFrom, itemNeed, needs, sameBytes, sameBox, sameItem, reading, format}
+use Rattle.redraw.specs.declared.Answer.{Answer}
+use Rattle.compare.specs.Compare.{found, changeNumber}
+use Rattle.redraw.specs.Sheet.{Sheet, shapes, refuses, canvas, sameHeader, few, tooMany, withPair, bothShapes, change, reaches, lent, patchBy, patchOf, patching, refusal, answer}
+
+-- a number as two bytes; -9, 0, 1, 2 and 9 as floats
+abbrev u16 : ℕ → List ℕ
+u16 n = n % 256 ∷ n / 256 ∷ []
+
+abbrev minus : List ℕ
+minus = 0 ∷ 0 ∷ 16 ∷ 193 ∷ []
+
+abbrev none : List ℕ
+none = replicate 4 0
+
+abbrev one : List ℕ
+one = 0 ∷ 0 ∷ 128 ∷ 63 ∷ []
+
+abbrev two : List ℕ
+two = 0 ∷ 0 ∷ 0 ∷ 64 ∷ []
+
+abbrev nine : List ℕ
+nine = 0 ∷ 0 ∷ 16 ∷ 65 ∷ []
+
+-- a fill at (x, 0), 1 wide and high, with r 0, black or red; an outline at the same place, which is shorter; a line from (x, 0); a push
+abbrev fill : List ℕ → ℕ → List ℕ
+fill x red = 3 ∷ 0 ∷ 0 ∷ 0 ∷ x ++ none ++ one ++ one ++ none ++ none ++ red ∷ 0 ∷ 0 ∷ 255 ∷ replicate 20 0
+
+abbrev outline : List ℕ → List ℕ
+outline x = 4 ∷ 0 ∷ 0 ∷ 0 ∷ x ++ none ++ one ++ one ++ none ++ one ++ 0 ∷ 0 ∷ 0 ∷ 255 ∷ []
+
+abbrev line : List ℕ → List ℕ
+line x = 5 ∷ 0 ∷ 0 ∷ 0 ∷ x ++ replicate 20 0
+
+abbrev push : List ℕ → List ℕ
+push x = 1 ∷ 0 ∷ 0 ∷ 0 ∷ x ++ replicate 12 0
+
+-- n times one item; the pairs of some items, and their bytes; the sheet 4 × 1 of them
+unfoldable pub times : ℕ → List ℕ → List (List ℕ)
+times zero item = []
+times (suc n) item = item ∷ times n item
+
+unfoldable pub pairs : List (List ℕ) → ℕ → List ℕ
+pairs [] at = []
+pairs (i ∷ l) at = u16 at ++ u16 (length i) ++ pairs l (at + length i)
+
+unfoldable pub joined : List (List ℕ) → List ℕ
+joined [] = []
+joined (i ∷ l) = i ++ joined l
+
+abbrev sheet : List (List ℕ) → List ℕ
+sheet l = u16 4 ++ u16 1 ++ none ++ u16 (length l) ++ u16 0 ++ pairs l (12 + 4 * length l) ++ joined l
+
+abbrev accepted : IRect → Answer
+accepted area = record { number = 0; item = 0; area = area }
+
+-- what a patch answers, with px of so many words
+abbrev answered : List (List ℕ) → List (List ℕ) → ℕ → Answer
+answered old new px = answer (patching format (sheet old) (sheet new) px 0)
+
+pub edges :
+    -- no shape differs, one, two; px is too short
+    (answered (fill none 0 ∷ []) (fill none 0 ∷ []) 4 ≡ accepted noBox)
+    × (answered (fill none 0 ∷ []) (fill two 0 ∷ []) 4 ≡ accepted (boxOf (pos 0) (pos 0) (pos 3) (pos 1)))
+    × (answered (times 2 (fill none 0)) (times 2 (fill two 0)) 4 ≡ accepted (boxOf (pos 0) (pos 0) (pos 3) (pos 1)))
+    × (answered (times 2 (fill none 0)) (times 2 (fill two 0)) 3 ≡ refusal 8 0)
+    -- one shape leaves the canvas and another comes
+    × (answered (fill none 0 ∷ fill nine 0 ∷ []) (fill minus 0 ∷ fill one 0 ∷ []) 4 ≡ accepted (boxOf (pos 0) (pos 0) (pos 2) (pos 1)))
+    -- two shapes change places
+    × (answered (fill none 0 ∷ fill one 255 ∷ []) (fill one 255 ∷ fill none 0 ∷ []) 4 ≡ accepted (boxOf (pos 0) (pos 0) (pos 2) (pos 1)))
+    -- a shape grows: the one after it stands at another offset and does not differ
+    × (answered (outline none ∷ fill two 0 ∷ []) (fill none 0 ∷ fill two 0 ∷ []) 4 ≡ accepted (boxOf (pos 0) (pos 0) (pos 1) (pos 1)))
+    -- a push differs, beside a shape
+    × (answered (fill none 0 ∷ push none ∷ []) (fill two 0 ∷ push one ∷ []) 4 ≡ refusal 10 0)
+unfolding times pairs joined patching patchOf patchBy lent reading sheetCheck checks.itemsFrom numberAt depthAt headNumber headerOk pairsOk pairsFrom itemNumber savedOk floatsOk paintFloatsOk bytesOk paintBytesOk pointsOk lengthOk layoutAt allAt floatOk itemsFrom drawnAs readItem readPaint reachOf needOf itemNeed needs sameItem sameBytes sameBox sameHeader change bothShapes withPair few tooMany reaches canvas hull join around empty meet maxZ minZ noBox answer refusal fillReach strokeReach noArea outerOf floorOf ceilOf ofBits round add sub mul ofInt lt le eq ne neg toSigned toUnsigned
+edges = (refl, refl, refl, refl, refl, refl, refl, refl)
+
+-- n lines from (x, 0)
+abbrev many : ℕ → List ℕ → List (List ℕ)
+many n x = times n (line x)
+
+-- none of 33 shapes differs, 32, and 33; also with a push after them, or before them
+pub limits :
+    (changeNumber (found (sheet (many 33 none)) (sheet (many 33 none))) ≡ 0)
+    × (changeNumber (found (sheet (many 32 none)) (sheet (many 32 one))) ≡ 0)
+    × (changeNumber (found (sheet (many 33 none)) (sheet (many 33 one))) ≡ 14)
+    × (changeNumber (found (sheet (many 33 none ++ push none ∷ [])) (sheet (many 33 one ++ push one ∷ []))) ≡ 10)
+    × (changeNumber (found (sheet (push none ∷ many 33 none)) (sheet (push one ∷ many 33 one))) ≡ 10)
+unfolding times pairs joined change bothShapes withPair few itemsFrom drawnAs readItem readPaint sameItem sameBytes changeNumber
+limits = (refl, refl, refl, refl, refl)
+
+-- 33 shapes are refused by 14 whatever px and scratch are lent: 14 comes before 8 and 9
+pub before-lengths : (l : List (List ℕ × List ℕ)) (s : Sheet (List ℕ)) (px words : ℕ) → length l ≡ 33 → patchBy format (shapes l) s px words ≡ refuses 14 0
+unfolding patchBy few tooMany
+before-lengths l s px words e = rw e
