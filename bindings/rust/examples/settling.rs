@@ -56,7 +56,7 @@ fn main() -> Result<(), Box<dyn Error>> {
             return Err(format!("{name}: a pixel outside the box was altered").into());
         }
         let (bw, bh) = (area.x1 - area.x0, area.y1 - area.y0);
-        println!("patched {name:<9} box {bw:>3} x {bh:>3} at {:>3},{:>3}", area.x0, area.y0);
+        println!("patched {name:<10} box {bw:>3} x {bh:>3} at {:>3},{:>3}", area.x0, area.y0);
         boxes.push((area, outline(name.split_once('-').map_or("", |(_, word)| word))));
     }
     fs::write(out.join("ticket.ppm"), ticket.to_ppm())?;

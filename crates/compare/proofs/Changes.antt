@@ -81,13 +81,14 @@ module _ (frame : IRect) where
 
   module _ (seen : ℕ) (area : IRect) where
     -- what is no shape differs
-    pub told-other : (i j : drawing.Item (List ℕ)) (c : Change (List ℕ)) → isShape i && isShape j ≡ false → toldAfter frame seen area (bothShapes i j c) ≡ told 10 noBox
+    pub told-other : (i j : drawing.Item (List ℕ)) (c : Change (List ℕ)) (both : Bool) → both ≡ isShape i && isShape j → both ≡ false
+        → toldAfter frame seen area (bothShapes i j c) ≡ told 10 noBox
     unfolding isShape bothShapes toldAfter
-    told-other (push a p) j c e = refl
-    told-other (pop a) j c e = refl
-    told-other (shape a) (push b q) c e = refl
-    told-other (shape a) (pop b) c e = refl
-    told-other (shape a) (shape b) c e = absurd (true≢false e)
+    told-other (push a p) j c both s e = refl
+    told-other (pop a) j c both s e = refl
+    told-other (shape a) (push b q) c both s e = refl
+    told-other (shape a) (pop b) c both s e = refl
+    told-other (shape a) (shape b) c both s e = absurd (true≢false (sym s ∙ e))
 
     -- a pair of shapes more
     pair : (a b : List ℕ) (c : Change (List ℕ))
@@ -101,11 +102,12 @@ module _ (frame : IRect) where
         let e = join-assoc (join area (meet frame (kind .reach a))) m h ∙ join-assoc area (meet frame (kind .reach a)) (join m h) in
         rw (n, e)
 
-    pub told-pair : (a b : List ℕ) (c : Change (List ℕ)) → isShape (itemIn a) && isShape (itemIn b) ≡ true
+    pub told-pair : (a b : List ℕ) (c : Change (List ℕ)) (both : Bool) → both ≡ isShape (itemIn a) && isShape (itemIn b) → both ≡ true
         → toldAfter frame seen area (bothShapes (itemIn a) (itemIn b) c)
         ≡ toldAfter frame (seen + 1) (join (join area (meet frame (kind .reach a))) (meet frame (kind .reach b))) c
     unfolding bothShapes
-    told-pair a b c e =
+    told-pair a b c both s t =
+        let e = sym s ∙ t in
         rw (shape-own a (itemOf a) (and-left _ (isShape (itemIn b)) e), shape-own b (itemOf b) (and-right (isShape (itemIn a)) _ e)) (pair a b c)
 
 -- a patch by a difference: refused by its number, or drawn in the box
@@ -156,14 +158,14 @@ module _ (old new : List ℕ) where
 
   -- the items from k on, of which m are left after it, where the items k are the same, and where they differ
   module _ (left m k : ℕ) (l : left ≡ m + 1) where
-    pub same-turn : sameAt old new k ≡ true → changeFrom old new left k ≡ changeFrom old new m (k + 1)
+    pub same-turn : (same : Bool) → same ≡ sameAt old new k → same ≡ true → changeFrom old new left k ≡ changeFrom old new m (k + 1)
     unfolding change itemsFrom sameAt
-    same-turn e = rw (l, add-one, e)
+    same-turn same s e = rw (l, add-one, sym s ∙ e)
 
-    pub other-turn : sameAt old new k ≡ false
+    pub other-turn : (same : Bool) → same ≡ sameAt old new k → same ≡ false
         → changeFrom old new left k ≡ bothShapes (itemIn (bytesAt old k)) (itemIn (bytesAt new k)) (changeFrom old new m (k + 1))
     unfolding change itemsFrom sameAt
-    other-turn e = rw (l, add-one, e)
+    other-turn same s e = rw (l, add-one, sym s ∙ e)
 
   pub no-turn : (left k : ℕ) → left ≡ 0 → changeFrom old new left k ≡ shapes []
   unfolding change itemsFrom

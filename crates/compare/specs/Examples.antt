@@ -55,20 +55,20 @@ abbrev push : List ℕ → List ℕ
 push x = 1 ∷ 0 ∷ 0 ∷ 0 ∷ x ++ replicate 12 0
 
 -- n times one item; the pairs of some items, and their bytes; the sheet 4 × 1 of them
-unfoldable pub times : ℕ → List ℕ → List (List ℕ)
-times zero item = []
-times (suc n) item = item ∷ times n item
+unfoldable pub copies : ℕ → List ℕ → List (List ℕ)
+copies zero item = []
+copies (suc n) item = item ∷ copies n item
 
-unfoldable pub pairs : List (List ℕ) → ℕ → List ℕ
-pairs [] at = []
-pairs (i ∷ l) at = u16 at ++ u16 (length i) ++ pairs l (at + length i)
+unfoldable pub pairsOf : List (List ℕ) → ℕ → List ℕ
+pairsOf [] at = []
+pairsOf (i ∷ l) at = u16 at ++ u16 (length i) ++ pairsOf l (at + length i)
 
 unfoldable pub joined : List (List ℕ) → List ℕ
 joined [] = []
 joined (i ∷ l) = i ++ joined l
 
 abbrev sheet : List (List ℕ) → List ℕ
-sheet l = u16 4 ++ u16 1 ++ none ++ u16 (length l) ++ u16 0 ++ pairs l (12 + 4 * length l) ++ joined l
+sheet l = u16 4 ++ u16 1 ++ none ++ u16 (length l) ++ u16 0 ++ pairsOf l (12 + 4 * length l) ++ joined l
 
 abbrev accepted : IRect → Answer
 accepted area = record { number = 0; item = 0; area = area }
@@ -81,8 +81,8 @@ pub edges :
     -- no shape differs, one, two; px is too short
     (answered (fill none 0 ∷ []) (fill none 0 ∷ []) 4 ≡ accepted noBox)
     × (answered (fill none 0 ∷ []) (fill two 0 ∷ []) 4 ≡ accepted (boxOf (pos 0) (pos 0) (pos 3) (pos 1)))
-    × (answered (times 2 (fill none 0)) (times 2 (fill two 0)) 4 ≡ accepted (boxOf (pos 0) (pos 0) (pos 3) (pos 1)))
-    × (answered (times 2 (fill none 0)) (times 2 (fill two 0)) 3 ≡ refusal 8 0)
+    × (answered (copies 2 (fill none 0)) (copies 2 (fill two 0)) 4 ≡ accepted (boxOf (pos 0) (pos 0) (pos 3) (pos 1)))
+    × (answered (copies 2 (fill none 0)) (copies 2 (fill two 0)) 3 ≡ refusal 8 0)
     -- one shape leaves the canvas and another comes
     × (answered (fill none 0 ∷ fill nine 0 ∷ []) (fill minus 0 ∷ fill one 0 ∷ []) 4 ≡ accepted (boxOf (pos 0) (pos 0) (pos 2) (pos 1)))
     -- two shapes change places
@@ -91,12 +91,12 @@ pub edges :
     × (answered (outline none ∷ fill two 0 ∷ []) (fill none 0 ∷ fill two 0 ∷ []) 4 ≡ accepted (boxOf (pos 0) (pos 0) (pos 1) (pos 1)))
     -- a push differs, beside a shape
     × (answered (fill none 0 ∷ push none ∷ []) (fill two 0 ∷ push one ∷ []) 4 ≡ refusal 10 0)
-unfolding times pairs joined patching patchOf patchBy lent reading sheetCheck checks.itemsFrom numberAt depthAt headNumber headerOk pairsOk pairsFrom itemNumber savedOk floatsOk paintFloatsOk bytesOk paintBytesOk pointsOk lengthOk layoutAt allAt floatOk itemsFrom drawnAs readItem readPaint reachOf needOf itemNeed needs sameItem sameBytes sameBox sameHeader change bothShapes withPair few tooMany reaches canvas hull join around empty meet maxZ minZ noBox answer refusal fillReach strokeReach noArea outerOf floorOf ceilOf ofBits round add sub mul ofInt lt le eq ne neg toSigned toUnsigned
+unfolding copies pairsOf joined patching patchOf patchBy lent reading sheetCheck checks.itemsFrom numberAt depthAt headNumber headerOk pairsOk pairsFrom itemNumber savedOk floatsOk paintFloatsOk bytesOk paintBytesOk pointsOk lengthOk layoutAt allAt floatOk itemsFrom drawnAs readItem readPaint reachOf needOf itemNeed needs sameItem sameBytes sameBox sameHeader change bothShapes withPair few tooMany reaches canvas hull join around empty meet maxZ minZ noBox answer refusal fillReach strokeReach noArea outerOf floorOf ceilOf ofBits round add sub mul ofInt lt le eq ne neg toSigned toUnsigned
 edges = (refl, refl, refl, refl, refl, refl, refl, refl)
 
 -- n lines from (x, 0)
 abbrev many : ℕ → List ℕ → List (List ℕ)
-many n x = times n (line x)
+many n x = copies n (line x)
 
 -- none of 33 shapes differs, 32, and 33; also with a push after them, or before them
 pub limits :
@@ -105,7 +105,7 @@ pub limits :
     × (changeNumber (found (sheet (many 33 none)) (sheet (many 33 one))) ≡ 14)
     × (changeNumber (found (sheet (many 33 none ++ push none ∷ [])) (sheet (many 33 one ++ push one ∷ []))) ≡ 10)
     × (changeNumber (found (sheet (push none ∷ many 33 none)) (sheet (push one ∷ many 33 one))) ≡ 10)
-unfolding times pairs joined change bothShapes withPair few itemsFrom drawnAs readItem readPaint sameItem sameBytes changeNumber
+unfolding copies pairsOf joined change bothShapes withPair few itemsFrom drawnAs readItem readPaint sameItem sameBytes changeNumber
 limits = (refl, refl, refl, refl, refl)
 
 -- 33 shapes are refused by 14 whatever px and scratch are lent: 14 comes before 8 and 9

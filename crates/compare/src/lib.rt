@@ -116,7 +116,7 @@ fn reach_at(s: &[u8], k: u16) -> IRect
     reach(&s[from..to])
 }
 
-// A box, and the smallest around it and what the reaches of the items k have in a canvas.
+// The smallest box around a box and what the reaches of the items k have in a canvas.
 fn area_with(area: IRect, canvas: IRect, old: &[u8], new: &[u8], k: u16) -> IRect
     ensures { λ r. ⌜ r ≡ Box.join (Box.join area (meet canvas (reachAt (now (old .entry)) k))) (meet canvas (reachAt (now (new .entry)) k)) ⌝ }
 {
@@ -147,7 +147,7 @@ fn settled(count: usize, area: IRect) -> Difference
     }
 }
 
-// What two sheets of n items tell: a push or a pop that differs is refused, wherever it stands.
+// What two sheets of n items each tell. A push or a pop that differs is refused by 10, wherever it stands; so the loop goes on past 32 shapes.
 fn changed_in(old: &[u8], new: &[u8], n: usize) -> Difference
     requires { ⌜ n < 65536 ⌝ }
     ensures { λ r. ⌜ r ≡ changedBy (canvas (sheetOf (now (new .entry)))) (changeFrom (now (old .entry)) (now (new .entry)) n 0) ⌝ }

@@ -50,7 +50,7 @@ loop-again c =
     let l = c .before .before .before in
     let a = l .before .before .before .before .before .args in
     let k = l .loop .k in
-    let e = same-turn (a .old .now) (a .new .now) (a .n - k) (a .n - (k + 1)) k (omega arith) (sym (c .before .same-at .ensures) ∙ c .if1 .taken) in
+    let e = same-turn (a .old .now) (a .new .now) (a .n - k) (a .n - (k + 1)) k (omega arith) _ (c .before .same-at .ensures) (c .if1 .taken) in
     (omega arith, omega arith, rw (← e) (l .loop .inv .2))
 
 cast-both-shapes : tie.Need-cast-both-shapes Inv-loop μ-loop
@@ -71,9 +71,9 @@ returns c =
     let new = a .new .now in
     let k = l .loop .k in
     let m = a .n - (k + 1) in
-    let e = other-turn old new (a .n - k) m k (omega arith) (sym (c .before .before .before .before .same-at .ensures) ∙ c .before .before .before .if1 .left) in
+    let e = other-turn old new (a .n - k) m k (omega arith) _ (c .before .before .before .before .same-at .ensures) (c .before .before .before .if1 .left) in
     let o = told-other (l .before .before .frame .result) (l .loop .count) (l .loop .area) (itemIn (bytesAt old k)) (itemIn (bytesAt new k)) (changeFrom old new m (k + 1))
-    (sym (c .before .before .both-shapes .ensures) ∙ not-true _ (c .before .if2 .taken)) in
+    _ (c .before .before .both-shapes .ensures) (not-true _ (c .before .if2 .taken)) in
     let i = rw e at (l .loop .inv .2) in
     c .refusal .ensures ∙ sym o ∙ i ∙ rw (l .before .before .frame .ensures)
 
@@ -101,9 +101,9 @@ loop-again-2 c =
     let new = a .new .now in
     let k = l .loop .k in
     let m = a .n - (k + 1) in
-    let e = other-turn old new (a .n - k) m k (omega arith) (sym (c .before .before .before .before .same-at .ensures) ∙ c .before .before .before .if1 .left) in
+    let e = other-turn old new (a .n - k) m k (omega arith) _ (c .before .before .before .before .same-at .ensures) (c .before .before .before .if1 .left) in
     let p = told-pair (l .before .before .frame .result) (l .loop .count) (l .loop .area) (bytesAt old k) (bytesAt new k) (changeFrom old new m (k + 1))
-    (sym (c .before .before .both-shapes .ensures) ∙ not-false _ (c .before .if2 .left)) in
+    _ (c .before .before .both-shapes .ensures) (not-false _ (c .before .if2 .left)) in
     (omega arith, omega arith, rw (c .area-with .ensures) (sym p ∙ rw (← e) (l .loop .inv .2)))
 
 settled-requires : tie.Need-settled-requires Inv-loop μ-loop

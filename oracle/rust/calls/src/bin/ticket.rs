@@ -43,7 +43,7 @@ fn sheet_of(n: usize, last: &[([f32; 4], [u8; 3])]) -> Vec<u8> {
     out
 }
 
-/// Of n fills the last is a square of a side.
+/// A sheet of n fills, the last of which is a square of a side.
 fn fills(n: usize, side: f32) -> Vec<u8> {
     sheet_of(n, &[([20.0, 20.0, side, side], [200, ((n - 1) % 256) as u8, 60])])
 }
@@ -78,37 +78,37 @@ fn costs(sheet: &[u8], other: &[u8]) -> [f64; 3] {
 /// The smallest times of the three patches from each of four sheets to the next, and of one patch from the first to the last; its box.
 fn sets(sheets: &[Vec<u8>; 4]) -> ([f64; 4], Answer) {
     let read = sheets.each_ref().map(|s| Sheet::read(s).expect("a sound sheet"));
-    let mut px = read[0].fresh();
+    let fresh = read.each_ref().map(Sheet::fresh);
+    let mut px = fresh[0].clone();
     let mut scratch = vec![0f32; read.iter().map(Sheet::need).max().unwrap_or(0)];
-    let fresh = read[3].fresh();
     let mut least = [f64::MAX; 4];
     let mut answer = None;
     for _ in 0..ROUNDS {
         for (i, (from, to)) in [(0, 1), (1, 2), (2, 3), (0, 3)].into_iter().enumerate() {
-            px.copy_from_slice(&read[from].fresh());
+            px.copy_from_slice(&fresh[from]);
             let (old, new) = (&sheets[from], &sheets[to]);
             micros(&mut least[i], || {
                 let (p, m, s, k) = (px.as_mut_ptr(), px.len(), scratch.as_mut_ptr(), scratch.len());
                 answer = Some(black_box(unsafe { maldjupp_patch(old.as_ptr(), old.len(), new.as_ptr(), new.len(), p, m, s, k) }));
             });
             assert_eq!(answer.map(|a| a.number), Some(0));
+            assert!(px == fresh[to]);
         }
-        assert!(px == fresh);
     }
     (least, answer.expect("a round"))
 }
 
 fn sets_by_items(ticket: &[Vec<u8>; 4]) {
     println!("\n| gross bar, tare bar and grade, box | three patches µs | one patch µs | ratio | target |\n|---|---|---|---|---|");
-    let mut row = |name: &str, sheets: &[Vec<u8>; 4], target: &str| {
+    let row = |name: &str, sheets: &[Vec<u8>; 4]| {
         let ([gross, tare, grade, at_once], area) = sets(sheets);
         let (three, w, h) = (gross + tare + grade, area.x1 - area.x0, area.y1 - area.y0);
-        println!("| {name}, {w} × {h} | {gross:.1} + {tare:.1} + {grade:.1} = {three:.1} | {at_once:.1} | {:.2} | {target} |", at_once / three);
+        println!("| {name}, {w} × {h} | {gross:.1} + {tare:.1} + {grade:.1} = {three:.1} | {at_once:.1} | {:.2} | 0.45 |", at_once / three);
     };
     for n in [20, 60, 200, 1000] {
-        row(&format!("{n} items"), &weighing(n), "0.45");
+        row(&format!("{n} items"), &weighing(n));
     }
-    row("the ticket of 65 items", ticket, "");
+    row("the ticket of 65 items", ticket);
 }
 
 fn sizes() {
