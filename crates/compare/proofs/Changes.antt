@@ -2,7 +2,7 @@
 use Prim.Native.Nat.{ℕ, zero, suc, _+_}
 use mathlib.Core.Path.{_≡_, refl, sym, ap, _∙_}
 use mathlib.Core.Bool.{Bool, true, false, cond, _&&_, true≢false, false≢true}
-use mathlib.Core.List.{List, [], _∷_}
+use mathlib.Core.List.{List, []}
 use native.Mathlib.Nat.{zero-add}
 use native.Mathlib.Numerals.{add-one}
 use native.Mathlib.Omega.{arith}
@@ -19,7 +19,7 @@ use Rattle.redraw.specs.Drawing as drawing
 use Rattle.redraw.specs.Drawing.{push, pop, shape}
 use Rattle.redraw.specs.Sheet.{Change, other, shapes, withPair, bothShapes, change, few, reaches, Sheet, refuses, canvas, lent, tooMany, patchBy}
 use Rattle.items.specs.Items.{readFill, readStroke, readLine, readPoly, readShadow, readItem, itemOf}
-use Rattle.items.specs.Format.{reachOf, kind, format, drawnAs, itemIn, itemsFrom, sameItem}
+use Rattle.items.specs.Format.{kind, format, drawnAs, itemIn, itemsFrom, sameItem}
 use Rattle.items.specs.declared.Item.{Item}
 use Rattle.items.specs.declared.Item.the-variants.{Push, Pop, Fill, Stroke, Line, Poly, Shadow, Unknown}
 use Rattle.compare.specs.declared.Difference.{Difference}
