@@ -146,8 +146,8 @@ fn an_edited_ticket_is_a_fresh_one() {
         let mut ticket = Ticket::paint(&b).unwrap();
         for _ in 0..20 {
             let before = ticket.clone();
-            let index = random.below(b.items() as u64 + 1) as usize;
-            match ticket.replace(index, random.shape()) {
+            let shapes: Vec<_> = (0..1 + random.below(3)).map(|_| (random.below(b.items() as u64 + 1) as usize, random.shape())).collect();
+            match ticket.edit(|b| shapes.iter().try_for_each(|(index, shape)| b.replace(*index, shape))) {
                 Ok(altered) => {
                     patched += 1;
                     let place = |i: usize| ((i % ticket.width()) as i32, (i / ticket.width()) as i32);

@@ -1,4 +1,4 @@
-//! The sheets and patches that document 01 gives as examples, and the largest of their kinds.
+//! The sheets and patches that document 01 gives as examples, the largest of their kinds, and the edges of request 2026-01.
 use crate::{
     make::{bytes, pop},
     Made, LONGEST,

@@ -1,4 +1,4 @@
-//! What painting and patching answer, and what they leave of scratch and pixels, by document 01.
+//! What painting and patching answer, and what they leave of scratch and pixels, by document 01 and request 2026-01.
 use crate::{item::EMPTY, Fault, Sheet, MOST_CHANGES};
 use kash::geom::IRect;
 
@@ -77,7 +77,7 @@ pub fn paint(bytes: &[u8], px: usize, scratch: usize) -> Expected {
     }
 }
 
-/// The smallest box around both, an empty one counting for nothing.
+/// The smallest box around both, an empty one counting for nothing; four zeros where both are empty.
 fn around(a: IRect, b: IRect) -> IRect {
     match (a.is_empty(), b.is_empty()) {
         (true, true) => EMPTY,
