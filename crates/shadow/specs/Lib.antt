@@ -1,3 +1,4 @@
 -- Shadow is what the contract of `shadow_rrect` cites, Spans what its loops do.
+pub mod Falloff
 pub mod Shadow
 pub mod Spans

@@ -5,12 +5,11 @@ use Prim.Native.Nat.{ℕ, zero, suc}
 use lib.Dec.{leb, eqb}
 use lib.IntN.{ℤ}
 use lib.Ieee.{Float, neg}
-use Rattle.mathf.specs.F32.{_+ᶠ_, _-ᶠ_, _*ᶠ_, _/ᶠ_, _<ᶠ_, _≤ᶠ_, ofℕᶠ, f0, f½, f1, f2, f96}
+use Rattle.mathf.specs.F32.{_+ᶠ_, _-ᶠ_, _*ᶠ_, _/ᶠ_, _<ᶠ_, _≤ᶠ_, f0, f2, f96}
 use Rattle.mathf.specs.Root.{sqrtOf}
 use Rattle.mathf.specs.Whole.{floorOf, ceilOf}
-use Rattle.mathf.specs.Convert.{toU32, toUsize, toI32}
+use Rattle.mathf.specs.Convert.{toUsize, toI32}
 use Rattle.mathf.specs.Order.{fabsOf}
-use Rattle.mathf.specs.Lerp.{curveOf}
 use Rattle.geom.specs.declared.IRect.{IRect}
 use Rattle.geom.specs.declared.Rect.{Rect}
 use Rattle.geom.specs.Box.{noBox}
@@ -20,6 +19,7 @@ use Rattle.color.specs.Inks.{over}
 use Rattle.draw.specs.Draw.{inColumns}
 use Rattle.paints.specs.declared.Rounded.{Rounded}
 use Rattle.paints.specs.Paints.{centreOf, roundedOf}
+use Rattle.shadow.specs.Falloff.{fractionOf, levelBy}
 
 -- the floats given are finite and within 8,192 of 0
 abbrev pub shadowOk : Rect → Float → Float → Bool
@@ -33,7 +33,7 @@ shadowReach rect blur c = cond (eqb (c .a) 0 || (blur ≤ᶠ f0)) noBox (outerOf
 
 -- level i of 0 to 96
 unfoldable pub levelOf : ℕ → ℕ → ℕ
-levelOf a i = toU32 ((f1 -ᶠ curveOf (ofℕᶠ i /ᶠ f96)) *ᶠ ofℕᶠ a +ᶠ f½)
+levelOf a i = levelBy (fractionOf i) a
 
 -- f 0, f 1, .. up to n
 unfoldable pub table : (ℕ → ℕ) → ℕ → List ℕ

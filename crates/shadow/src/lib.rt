@@ -1,4 +1,7 @@
 // The soft shadow of a rounded rectangle.
+mod falloff;
+
+use crate::falloff::falloff;
 use color::Color;
 use color::over;
 use color::over_wide;
@@ -39,26 +42,6 @@ pub fn shadow_reach(rect: Rect, blur: f32, c: Color) -> IRect
         return IRect::new(0, 0, 0, 0);
     }
     IRect::from_rect_outer(rect.inset(-blur))
-}
-
-// Level i of the falloff.
-fn level(i: u8, a: u8) -> u32
-    ensures { λ r. ⌜ r ≡ levelOf a i ⌝ }
-{
-    let t = i as f32 / 96.0;
-    let f = 1.0 - t * t * (3.0 - 2.0 * t);
-    mathf::to_u32(f * (a as f32) + 0.5)
-}
-
-// The 97 levels, filled once a call.
-fn falloff(a: u8) -> [u32; 97]
-    ensures { λ r. ⌜ r ≡ table (levelOf a) 97 ⌝ }
-{
-    let mut lut = [0u32; 97];
-    for i in 0..97 {
-        lut[i] = level(i as u8, a);
-    }
-    lut
 }
 
 // The alpha at t levels out.

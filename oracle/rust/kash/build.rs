@@ -1,7 +1,20 @@
-//! Finds the four sources, holds them to oracle/SHA256SUMS and names them as modules. They are never copied.
+//! Finds the four sources, holds them to oracle/SHA256SUMS and names them as modules. They are never copied. What `shadow_rrect` keeps to
+//! itself, the fractions of its falloff, is compiled from its own line.
 use std::{env, fs, path::Path, process::Command};
 
 const MODULES: [&str; 4] = ["color", "geom", "gfx", "mathf"];
+
+/// What stands in a text from one mark up to the next.
+fn cut<'a>(text: &'a str, from: &str, upto: &str) -> &'a str {
+    let rest = &text[text.find(from).unwrap_or_else(|| panic!("no {from} in gfx.rs"))..];
+    &rest[..rest.find(upto).unwrap_or_else(|| panic!("no {upto} after {from} in gfx.rs"))]
+}
+
+/// A function of the statements with which `shadow_rrect` works out fraction i of its falloff: their text is the Rust's own.
+fn fraction(gfx: &str) -> String {
+    let (levels, line) = (cut(gfx, "const N: usize", "let mut lut"), cut(gfx, "let t = i as f32", "lut[i]"));
+    format!("pub fn fraction(i: usize) -> f32 {{ {levels} {line} a }}\n")
+}
 
 fn main() {
     let oracle = Path::new(env!("CARGO_MANIFEST_DIR")).join("../..").canonicalize().expect("the folder oracle");
@@ -15,9 +28,10 @@ fn main() {
     println!("cargo:rerun-if-changed={}", sums.display());
     let checked = Command::new("sha256sum").args(["--check", "--strict", "--quiet"]).arg(&sums).current_dir(&folder).status().expect("sha256sum");
     assert!(checked.success(), "the Rust sources in {} are not those of oracle/SHA256SUMS", folder.display());
-    let mut text = String::new();
+    let source = |module: &str| folder.join(format!("src--kash-ui--crates--kash-ui--src--{module}.rs.txt"));
+    let mut text = fraction(&fs::read_to_string(source("gfx")).unwrap());
     for module in MODULES {
-        let file = folder.join(format!("src--kash-ui--crates--kash-ui--src--{module}.rs.txt"));
+        let file = source(module);
         println!("cargo:rerun-if-changed={}", file.display());
         text += &format!("#[path = {:?}]\npub mod {module};\n", file.display().to_string());
     }

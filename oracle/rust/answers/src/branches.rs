@@ -32,8 +32,7 @@ fn centre(z: i32) -> f32 {
 
 /// A level of a shadow's falloff.
 fn level(call: &Call, i: usize) -> u32 {
-    let t = i as f32 / 96.0;
-    ((1.0 - t * t * (3.0 - 2.0 * t)) * call.ink().a as f32 + 0.5) as u32
+    (kash::fraction(i) * call.ink().a as f32 + 0.5) as u32
 }
 
 impl Taken {

@@ -1,5 +1,5 @@
 //! Writes what the replay programs read and must print: crates/replay_*/stdin and stdout below the folder given. What belongs to a
-//! crate that is not there yet is written below the second folder.
+//! crate that is not there yet is written below the second folder. Before it writes, it holds the table of a shadow's fractions to the Rust.
 use std::{
     env, fs,
     path::{Path, PathBuf},
@@ -7,6 +7,7 @@ use std::{
 
 mod canvas;
 mod color;
+mod falloff;
 mod geom;
 mod mathf;
 mod paint;
@@ -53,6 +54,7 @@ fn main() {
         fs::create_dir_all(&other).unwrap();
         other
     };
+    falloff::hold(&given(1).join("shadow/src/falloff.rt"));
     mathf::stored().write(&folder("replay_mathf"));
     color::stored().write(&folder("replay_color"));
     geom::stored().write(&folder("replay_geom"));

@@ -88,6 +88,8 @@ fn shapes() {
     drawn("line, width 3", "3", &[at(1, 0, 20.5, 30.5, 200)]);
     drawn("polygon, 24 points", "1.2", &[at(8, 0, 20.5, 30.5, 200)]);
     drawn("shadow, blur 16", "1.3", &[at(9, 0, 40.5, 30.5, 120)]);
+    let small = Call { r: 2.0, width: 2.0, coords: vec![40.5, 30.5, 12.0, 12.0], ..at(9, 0, 0.0, 0.0, 120) };
+    drawn("shadow, blur 2, 12 × 12", "", &[small]);
     let ticket: Vec<Call> = (0..60).map(|i| at([9, 5, 6, 3, 1, 8][i % 6], [1, 1, 0, 0, 0, 2][i % 6], 10.5 + (i * 7) as f32, 5.5 + (i * 4) as f32, 200)).collect();
     drawn("ticket of 60 shapes", "", &ticket);
 }

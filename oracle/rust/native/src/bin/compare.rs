@@ -276,6 +276,28 @@ fn shapes(run: &mut Run, random: &mut Random, calls: u64) {
     }
 }
 
+/// A shadow whose alpha falls by one level from column to column.
+fn falling(alpha: u8) -> Call {
+    let white = u32::from_le_bytes([255, 255, 255, alpha]);
+    Call { f: shape::SHADOW, kind: 0, paint: [0.0; 4], colours: [white; 2], r: 0.0, width: 48.0, coords: vec![-151.5, -100.0, 200.0, 201.0] }
+}
+
+/// A shadow of each alpha, every level a pixel: white at a level over black is that level in each channel.
+fn levels(run: &mut Run, random: &mut Random) {
+    let (began, mut differ) = (Instant::now(), 0);
+    for alpha in 0..=255u8 {
+        let (call, mut canvas) = (falling(alpha), Canvas::new(98, 1));
+        let mut px = canvas.px.clone();
+        call.draw(&mut canvas);
+        for (i, p) in canvas.px.iter().enumerate() {
+            let level = if i < 96 { (kash::fraction(i) * alpha as f32 + 0.5) as u32 } else { 0 };
+            assert_eq!(*p, level * 0x01_0101, "level {i} of alpha {alpha}");
+        }
+        differ += !same_shape(&call.words(&canvas), 0, &mut px, &canvas.px, random) as u64;
+    }
+    run.report("shadow's levels", 256, differ, began);
+}
+
 fn main() {
     let (whole, leaves, calls) = match env::args().nth(1).as_deref() {
         Some("whole") => (true, true, 3_000_000),
@@ -295,6 +317,7 @@ fn main() {
         canvas_cases(&mut run, &mut random);
     }
     shapes(&mut run, &mut random, calls);
+    levels(&mut run, &mut random);
     println!("comparison with the Rust: {} cases, {} differences", run.cases, run.differ);
     if run.differ > 0 {
         exit(1);
