@@ -1,19 +1,20 @@
 -- The table of fractions on file: its rule is a test at each entry, which is computed over the whole table, and one law. Assumes nothing.
-use mathlib.Core.Path.{_≡_}
+use mathlib.Core.Path.{_≡_, ap, _∙_}
 use mathlib.Core.Bool.{Bool, true, _&&_}
 use mathlib.Core.List.{List, [], _∷_}
 use Prim.Native.Nat.{ℕ, zero, suc, _*_, _^_, _<_}
 use native.Mathlib.Nat.{le-of-suc-le-suc, not-suc-le-zero}
 use lib.Dec.{eqb, ltb}
 use lib.ListN.{length, getD}
-use lib.Ieee.{binary32, ofBits}
+use lib.Ieee.{Float, binary32, ofBits}
 use lib.Ieee.Bits.{ofBits-toBits}
 use lib.Ieee.Fits.{sub-fits}
 use borrow.Author.Tests.{eqb-true, ltb-true}
 use Rattle.mathf.specs.F32.{_/ᶠ_, ofℕᶠ, f1, f96}
 use Rattle.mathf.specs.Lerp.{curveOf}
 use Rattle.geom.proofs.Bools.{and-left, and-right}
-use Rattle.shadow.specs.Falloff.{fractionOf, fractionBits, OnFile}
+use Rattle.shadow.specs.Falloff.{fractionOf, fractionBits, levelBy, OnFile}
+use Rattle.shadow.specs.Shadow.{levelOf}
 
 -- the test f passes at each place of a list and the entry there
 abbrev pub every : (ℕ → ℕ → Bool) → List ℕ → Bool
@@ -41,7 +42,11 @@ on-file patterns n t = record {
     place : (i : ℕ) → i < 97 → right i (getD patterns i 0) ≡ true
     place i h = at right patterns t i (rw n h)
 
--- the bits of a fraction are its own
-pub fraction-is : (i : ℕ) → ofBits binary32 (fractionBits i) ≡ fractionOf i
+fraction-is : (i : ℕ) → ofBits binary32 (fractionBits i) ≡ fractionOf i
 unfolding fractionBits
 fraction-is i = ofBits-toBits binary32 (fractionOf i) (sub-fits binary32 f1 (curveOf (ofℕᶠ i /ᶠ f96)))
+
+-- what is made of entry i is level i
+pub level-on-file : (patterns : List ℕ) → OnFile patterns → (a i : ℕ) → i < 97 → levelBy (ofBits binary32 (getD patterns i 0)) a ≡ levelOf a i
+unfolding levelOf
+level-on-file patterns t a i h = ap (λ (f : Float). levelBy f a) (ap (ofBits binary32) (t .entry i h) ∙ fraction-is i)

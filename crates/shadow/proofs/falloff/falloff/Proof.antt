@@ -1,14 +1,12 @@
 -- `shadow::falloff::falloff` meets its contract. The first i places hold their levels. Assumes nothing.
-use mathlib.Core.Path.{_≡_, refl, sym, ap, _∙_}
-use Prim.Native.Nat.{_<_, _≤_, _-_}
+use mathlib.Core.Path.{_≡_, refl, sym, _∙_}
+use Prim.Native.Nat.{_≤_, _-_}
 use native.Mathlib.Numerals.{add-one}
 use native.Mathlib.Omega.{arith}
-use lib.Ieee.{Float, binary32, ofBits}
 use lib.ListN.{length, take, length-set}
 use lib.Seq.{take-suc-set, take-all}
-use Rattle.shadow.specs.Falloff.{levelBy}
 use Rattle.shadow.specs.Shadow.{levelOf, table}
-use Rattle.shadow.proofs.Fractions.{fraction-is}
+use Rattle.shadow.proofs.Fractions.{level-on-file}
 use Rattle.shadow.proofs.falloff.falloff.Statement.{statement}
 use Rattle.shadow.proofs.falloff.falloff.Tie as tie
 
@@ -32,7 +30,7 @@ array-read-level : tie.Need-array-read-level Inv-loop μ-loop
 array-read-level c = omega (arith, c .before .before .on-file .ensures .long)
 
 level-requires : tie.Need-level-requires Inv-loop μ-loop
-level-requires c κs = c .before .before .on-file .ensures .number (c .before .loop .i) (omega arith)
+level-requires c κs = c .before .before .on-file .ensures .number _ (omega arith)
 
 mul-lut : tie.Need-mul-lut Inv-loop μ-loop
 mul-lut c = omega arith
@@ -47,12 +45,7 @@ loop-less : tie.Need-loop-less Inv-loop μ-loop
 loop-less c = omega arith
 
 level-is : (c : tie.After-level Inv-loop μ-loop) → c .level .result ≡ levelOf (c .before .before .before .before .args .a) (c .before .before .loop .i)
-unfolding levelOf
-level-is c =
-    let i = c .before .before .loop .i in
-    let h : i < 97 = omega arith in
-    c .level .ensures
-    ∙ ap (λ (f : Float). levelBy f (c .before .before .before .before .args .a)) (ap (ofBits binary32) (c .before .before .before .on-file .ensures .entry i h) ∙ fraction-is i)
+level-is c = c .level .ensures ∙ level-on-file (c .before .before .before .on-file .result) (c .before .before .before .on-file .ensures) _ _ (omega arith)
 
 loop-again : tie.Need-loop-again Inv-loop μ-loop
 unfolding table
