@@ -26,7 +26,7 @@ at f [] t i h = absurd (not-suc-le-zero h)
 at f (x ∷ xs) t zero h = and-left (f 0 x) (every (λ k. f (suc k)) xs) t
 at f (x ∷ xs) t (suc i) h = at (λ k. f (suc k)) xs (and-right (f 0 x) (every (λ k. f (suc k)) xs) t) i (le-of-suc-le-suc h)
 
--- an entry has the bits of its fraction, which are a finite number's, not below +0
+-- an entry has the bits of its fraction, and is the pattern of a finite number, sign bit 0
 unfoldable pub right : ℕ → ℕ → Bool
 right i x = eqb x (fractionBits i) && ltb x (255 * 2 ^ 23)
 

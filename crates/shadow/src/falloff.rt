@@ -103,7 +103,7 @@ const FRACTIONS: [u32; 97] = [
     0x3b3c_0000,
     0x3aa8_4c00,
     0x39a9_8000,
-    0,
+    0x0000_0000,
 ];
 
 // The table, whose rule is proved here, once for all entries.

@@ -282,7 +282,7 @@ fn falling(alpha: u8) -> Call {
     Call { f: shape::SHADOW, kind: 0, paint: [0.0; 4], colours: [white; 2], r: 0.0, width: 48.0, coords: vec![-151.5, -100.0, 200.0, 201.0] }
 }
 
-/// A shadow of each alpha, every level a pixel: white at a level over black is that level in each channel.
+/// A shadow of each alpha, each level that is read a pixel: white at a level over black is that level in each channel.
 fn levels(run: &mut Run, random: &mut Random) {
     let (began, mut differ) = (Instant::now(), 0);
     for alpha in 0..=255u8 {
