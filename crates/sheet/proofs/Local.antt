@@ -9,10 +9,12 @@ use native.Mathlib.Omega.{arith}
 use lib.Dec.{leb, eqb}
 use lib.ListN.{take, drop}
 use lib.Seq.{getD-take, getD-drop}
-use borrow.Author.Tests.{leb-true, eqb-false, ne-eqb}
+use borrow.Author.Tests.{leb-true, eqb-true, eqb-false, ne-eqb}
 use Rattle.geom.proofs.Bools.{split, and-left, and-right}
 use Rattle.sheet.specs.Bytes.{byteAt, floatAt, zeroAt, floatOkAt, allAt, zeros, floats}
-use Rattle.sheet.specs.Kinds.{kindAt, pointsAt, layoutOf, layoutAt, paintLayout, paintBytesOk, bytesOk, paintFloatsOk, floatsOk, lengthOk}
+use Rattle.gfx.specs.Calls.{unless}
+use Rattle.gfx.proofs.Answers.{passed}
+use Rattle.sheet.specs.Kinds.{kindAt, pointsAt, layoutOf, layoutAt, paintLayout, lengthOk, pointsOk, paintBytesOk, bytesOk, paintFloatsOk, floatsOk, savedOk, itemNumber}
 use Rattle.sheet.specs.Check.{offsetOf, lengthOf, bytesAt}
 use Rattle.sheet.specs.declared.kinds.Layout.{Layout}
 use Rattle.sheet.proofs.Accepted.{AcceptedItem, kind-known, length-is}
@@ -189,3 +191,94 @@ module _ (s : List ℕ) (k : ℕ) (a : AcceptedItem s k) where
         floats-same s at len (f .float) (at + f .float) (f .floats) refl (omega (arith, room .float, length-is s k a)),
         with-paint paintFloatsOk (paint-floats s at len),
       )
+
+-- ---- the other way round: an item that has no number by its own bytes has none in the sheet
+
+-- the kind of an item of four bytes or more
+pub kind-alone : (s : List ℕ) (at len : ℕ) → 4 ≤ len → kindAt (take len (drop at s)) 0 ≡ kindAt s at
+kind-alone s at len h = byte s at len 0 at (omega arith) (omega arith)
+
+module _ (s : List ℕ) (at len depth : ℕ) (e : itemNumber (take len (drop at s)) 0 len depth ≡ 0) where
+  abbrev alone : List ℕ
+  alone = take len (drop at s)
+
+  passed-long : (lengthOk alone 0 len ≡ true) × (unless (pointsOk alone 0) 13 (unless (bytesOk alone 0) 5 (unless (floatsOk alone 0) 6 (unless (savedOk alone 0 depth) 7 0))) ≡ 0)
+  unfolding itemNumber
+  passed-long = passed (lengthOk alone 0 len) 3 _ e
+
+  four : 4 ≤ len
+  unfolding lengthOk
+  four = leb-true _ _ (and-right (leb 1 (kindAt alone 0) && leb (kindAt alone 0) 7) _ (and-left _ (eqb len (layoutAt alone 0 .length)) (passed-long .0)))
+
+  known : (1 ≤ kindAt alone 0) × (kindAt alone 0 ≤ 7)
+  unfolding lengthOk
+  known =
+      let both = and-left _ (leb 4 len) (and-left _ (eqb len (layoutAt alone 0 .length)) (passed-long .0)) in
+      (leb-true _ _ (and-left _ (leb (kindAt alone 0) 7) both), leb-true _ _ (and-right (leb 1 (kindAt alone 0)) _ both))
+
+  kind-is : kindAt alone 0 ≡ kindAt s at
+  kind-is = kind-alone s at len four
+
+  points-is : pointsAt alone 0 ≡ pointsAt s at
+  points-is = rw (byte s at len 2 (at + 2) (omega arith) (omega (arith, four)), byte s at len 3 (at + 2 + 1) (omega arith) (omega (arith, four)))
+
+  layout-is : layoutAt alone 0 ≡ layoutAt s at
+  unfolding layoutAt
+  layout-is = rw (kind-is, points-is)
+
+  sized : len ≡ layoutAt s at .length
+  unfolding lengthOk
+  sized =
+      eqb-true _ _ (and-right (leb 1 (kindAt alone 0) && leb (kindAt alone 0) 7 && leb 4 len) _ (passed-long .0)) ∙ ap (λ (f : Layout). f .length) layout-is
+
+  space : Room (layoutAt s at)
+  unfolding layoutAt
+  space = layout-room (pointsAt s at) (kindAt s at) (rw kind-is at (known .0)) (rw kind-is at (known .1))
+
+  -- its paint, where it has one
+  paint-alone : (test : List ℕ → ℕ → Bool) → ((p q : ℕ) → at + p ≡ q → p + 28 ≤ len → test alone p ≡ test s q)
+      → (eqb (layoutAt s at .paint) 0 || test alone (layoutAt s at .paint)) ≡ (eqb (layoutAt s at .paint) 0 || test s (at + layoutAt s at .paint))
+  paint-alone test same =
+      split (eqb (layoutAt s at .paint) 0) (λ t. (t || test alone (layoutAt s at .paint)) ≡ (t || test s (at + layoutAt s at .paint))) (λ z. refl)
+      (λ z. same (layoutAt s at .paint) (at + layoutAt s at .paint) refl
+      (omega (arith, space .paint (omega (arith, eqb-false (layoutAt s at .paint) 0 z)), sized)))
+
+  bytes-is : bytesOk alone 0 ≡ bytesOk s at
+  unfolding bytesOk
+  bytes-is =
+      rw (
+        layout-is,
+        kind-is,
+        zero-add (layoutAt s at .zero),
+        zero-add (layoutAt s at .paint),
+        zeros-same s at len (layoutAt s at .zero) (at + layoutAt s at .zero) (layoutAt s at .zeros) refl (omega (arith, space .zero, sized)),
+        byte s at len 1 (at + 1) refl (omega (arith, four)),
+        paint-alone paintBytesOk (paint-bytes s at len),
+      )
+
+  floats-is : floatsOk alone 0 ≡ floatsOk s at
+  unfolding floatsOk
+  floats-is =
+      rw (
+        layout-is,
+        zero-add (layoutAt s at .float),
+        zero-add (layoutAt s at .paint),
+        floats-same s at len (layoutAt s at .float) (at + layoutAt s at .float) (layoutAt s at .floats) refl (omega (arith, space .float, sized)),
+        paint-alone paintFloatsOk (paint-floats s at len),
+      )
+
+  long-is : lengthOk alone 0 len ≡ lengthOk s at len
+  unfolding lengthOk
+  long-is = rw (layout-is, kind-is)
+
+  points-ok : pointsOk alone 0 ≡ pointsOk s at
+  unfolding pointsOk
+  points-ok = rw (kind-is, points-is)
+
+  saved-ok : savedOk alone 0 depth ≡ savedOk s at depth
+  unfolding savedOk
+  saved-ok = rw kind-is
+
+  pub number-alone : itemNumber s at len depth ≡ 0
+  unfolding itemNumber
+  number-alone = rw (← long-is, ← points-ok, ← bytes-is, ← floats-is, ← saved-ok) e
