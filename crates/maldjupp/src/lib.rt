@@ -1,12 +1,17 @@
-// The static library: the sheet calls and the canvas calls for C and Rust. A slice passes as a pointer and a length, a struct by value.
+// The static library: sheet calls, clip orders and canvas calls for C and Rust. A slice passes as a pointer and a length, a struct by value.
 pub mod brush;
 pub mod canvas;
 pub mod shapes;
 
+use encode::Written;
+use orders::clip_order;
 use paint::paint;
 use patch::patch;
 use redraw::Answer;
+ghost use lib.ListN.{length};
+ghost use Rattle.encode.specs.Encode.{Wrote};
 ghost use Rattle.items.specs.Format.{format, zeroWord};
+ghost use Rattle.orders.specs.Orders.{orderNumber, orderSheet};
 ghost use Rattle.redraw.specs.Calls.{Painted, Patched};
 
 // Paints a sheet: every pixel the ground, then its items in their order.
@@ -28,4 +33,12 @@ pub extern "C" fn maldjupp_patch(
     ensures { λ r. ⌜ Patched zeroWord format (now (old .entry)) (now (new .entry)) (now (px .entry)) (now (scratch .entry)) r (now (px .exit)) (now (scratch .exit)) ⌝ }
 {
     patch(old, new, px, scratch)
+}
+
+// Writes the small clip order of a number, from 0: 23 for a number of 1,093 or more, 19 for a buffer in which it does not fit.
+#[no_mangle]
+pub extern "C" fn maldjupp_clip_order(number: usize, buf: &mut [u8]) -> Written
+    ensures { λ r. ⌜ Wrote (orderNumber number (length (now (buf .entry)))) 0 (orderSheet number) (now (buf .entry)) r (now (buf .exit)) ⌝ }
+{
+    clip_order(number, buf)
 }
