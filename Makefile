@@ -1,8 +1,8 @@
 # make test: the gate, then a short comparison with the unchanged Rust, then the bindings. make ticket: a ticket painted and patched
 # through a settling weight, as pictures.
-# make compare: the comparison at scale, in minutes. make shapes, make sheets, make patches: of the shapes, of painting sheets, of
-# lists of patches alone. make bench: speed beside the Rust.
-.PHONY: test ticket compare shapes sheets patches bench
+# make compare: the comparison at scale, in minutes. make shapes, make sheets, make patches, make orders: of the shapes, of painting
+# sheets, of lists of patches, of every small clip order alone. make bench: speed beside the Rust.
+.PHONY: test ticket compare shapes sheets patches orders bench
 
 test:
 	@bash tools/test
@@ -21,6 +21,9 @@ sheets:
 
 patches:
 	@bash oracle/compare patches
+
+orders:
+	@bash oracle/compare orders
 
 bench:
 	@bash oracle/bench

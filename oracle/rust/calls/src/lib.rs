@@ -1,13 +1,13 @@
-//! The sheet calls of the crate `maldjupp`, on lent memory. A slice passes as a pointer and a length.
+//! The sheet calls and the call of the clip orders of the crate `maldjupp`, on lent memory. A slice passes as a pointer and a length.
 pub mod lent;
 
 use answers::random::Random;
 use lent::{bytes, Lent};
-use sheets::{Answer, Expected};
+use sheets::{orders::Written, Answer, Expected};
 
 /// The functions as they are exported.
 pub mod raw {
-    use sheets::Answer;
+    use sheets::{orders::Written, Answer};
     extern "C" {
         pub fn maldjupp_paint(sheet: *const u8, n: usize, px: *mut u32, m: usize, scratch: *mut f32, k: usize) -> Answer;
         pub fn maldjupp_patch(
@@ -20,6 +20,7 @@ pub mod raw {
             scratch: *mut f32,
             k: usize,
         ) -> Answer;
+        pub fn maldjupp_clip_order(number: usize, buf: *mut u8, room: usize) -> Written;
     }
 }
 
@@ -53,12 +54,16 @@ impl Memory {
     /// Paints, or patches where there is an old sheet. Each piece of memory ends at a page that cannot be touched, or, one time in four,
     /// begins at one.
     pub fn call(&mut self, old: Option<&[u8]>, new: &[u8], px: &[u32], scratch: &[u32], random: &mut Random) -> Left {
-        let mut at_start = || random.below(4) == 0;
+        self.call_at(old, new, px, scratch, [(); 4].map(|_| random.below(4) == 0))
+    }
+
+    /// The same, where old sheet, new sheet, px and scratch each begin at such a page or end at one.
+    pub fn call_at(&mut self, old: Option<&[u8]>, new: &[u8], px: &[u32], scratch: &[u32], at_start: [bool; 4]) -> Left {
         let given = old.unwrap_or(&[]);
-        let o = self.old.lend(given, at_start());
-        let n = self.new.lend(new, at_start());
-        let p = self.px.lend(bytes(px), at_start()) as *mut u32;
-        let s = self.scratch.lend(bytes(scratch), at_start()) as *mut f32;
+        let o = self.old.lend(given, at_start[0]);
+        let n = self.new.lend(new, at_start[1]);
+        let p = self.px.lend(bytes(px), at_start[2]) as *mut u32;
+        let s = self.scratch.lend(bytes(scratch), at_start[3]) as *mut f32;
         let answer = unsafe {
             match old {
                 None => raw::maldjupp_paint(n, new.len(), p, px.len(), s, scratch.len()),
@@ -71,6 +76,14 @@ impl Memory {
         let (scratch_left, d) = self.scratch.back();
         let inside = a && b && c && d && old_left == given && new_left == new;
         Left { answer, px: words(px_left), scratch: words(scratch_left), inside }
+    }
+
+    /// Asks for the clip order of a number: what is returned, the buffer after the call, and whether nothing beside it was written.
+    pub fn clip_order(&mut self, number: usize, buf: &[u8], at_start: bool) -> (Written, Vec<u8>, bool) {
+        let lent = self.new.lend(buf, at_start);
+        let written = unsafe { raw::maldjupp_clip_order(number, lent, buf.len()) };
+        let (left, inside) = self.new.back();
+        (written, left.to_vec(), inside)
     }
 }
 

@@ -6,6 +6,7 @@ pub mod fixed;
 pub mod item;
 pub mod make;
 pub mod model;
+pub mod orders;
 pub mod sheet;
 pub mod text;
 

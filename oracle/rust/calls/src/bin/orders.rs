@@ -1,0 +1,103 @@
+//! Every small clip order as the library writes it, beside the list of rust/sheets, in every room from none to two bytes more than it
+//! needs; numbers past the last; and each sheet painted by the library and by the unchanged Rust. Exit status 1 where anything differs.
+use answers::random::{Random, SEED};
+use calls::{fault, Memory};
+use sheets::{
+    fixed,
+    orders::{self, COUNT, LONGEST, PAINTED, PIXELS},
+    paint, SHORTEST,
+};
+use std::{collections::BTreeSet, process::exit};
+
+/// A room of more than a page.
+const WIDE: usize = 5_000;
+
+/// The rooms in which a number past the last is asked for.
+const ROOMS: [usize; 6] = [0, SHORTEST - 1, SHORTEST, LONGEST - 1, LONGEST, 400];
+
+struct Run {
+    memory: Memory,
+    random: Random,
+    all: Vec<Vec<u8>>,
+    calls: u64,
+    differ: u64,
+}
+
+impl Run {
+    fn differs(&mut self, text: String) {
+        self.differ += 1;
+        if self.differ <= 3 {
+            println!("{text}");
+        }
+    }
+
+    /// One call on a buffer of random bytes, which begins at a page that cannot be touched or ends at one. Answers the buffer after it.
+    fn ask(&mut self, number: usize, room: usize, at_start: bool) -> Vec<u8> {
+        let before: Vec<u8> = (0..room).map(|_| self.random.word() as u8).collect();
+        let (expected, after) = orders::expected(&self.all, number, &before);
+        let (written, left, inside) = self.memory.clip_order(number, &before, at_start);
+        self.calls += 1;
+        let what = match (written == expected, left == after, inside) {
+            (false, ..) => "answer",
+            (_, false, _) => "buffer",
+            (.., false) => "memory that was not lent",
+            _ => return left,
+        };
+        self.differs(format!("order {number} in a room of {room} differs in {what}: {written:?} instead of {expected:?}"));
+        left
+    }
+
+    /// A number in every room, the buffer at either end. Answers its sheet as it was written where it just fits.
+    fn order(&mut self, number: usize) -> Vec<u8> {
+        let need = self.all[number].len();
+        for at_start in [false, true] {
+            for room in (0..=need + 2).chain([WIDE]) {
+                self.ask(number, room, at_start);
+            }
+        }
+        self.ask(number, need, false)
+    }
+
+    /// Paints a sheet on 16 pixels without scratch, which begin at a page that cannot be touched or end at one.
+    fn painted(&mut self, number: usize, sheet: &[u8], at_start: bool) {
+        let expected = paint(sheet, PIXELS, 0);
+        let px: Vec<u32> = (0..PIXELS).map(|_| self.random.word()).collect();
+        let left = self.memory.call_at(None, sheet, &px, &[], [at_start; 4]);
+        self.calls += 1;
+        let wrong = fault(&left, &expected, &expected.fresh().unwrap_or(px), &[]);
+        if let Some(what) = wrong.or((expected.answer != PAINTED).then_some("acceptance")) {
+            self.differs(format!("order {number} painted differs in {what}: {:?} beside {:?} of the Rust", left.answer, expected.answer));
+        }
+    }
+
+    /// Numbers of 1,093 and more, of every length in bits.
+    fn past(&mut self) -> Vec<usize> {
+        let mut past: Vec<usize> = (COUNT..=2_200).chain(65_536..65_600).chain([65_536 + COUNT - 1]).collect();
+        past.extend((0..=8).chain([COUNT - 1]).map(|low| (1 << 32) + low));
+        past.extend([1 << 31, (1 << 63) - 1, 1 << 63, (1 << 63) + 5, usize::MAX - 1, usize::MAX]);
+        past.extend((0..53).flat_map(|bits| [0; 4].map(|_| (self.random.next() >> bits) as usize)).filter(|number| *number >= COUNT));
+        past
+    }
+}
+
+fn main() {
+    fixed::check();
+    let mut run = Run { memory: Memory::default(), random: Random(SEED + 12), all: orders::all(), calls: 0, differ: 0 };
+    let written: Vec<Vec<u8>> = (0..COUNT).map(|number| run.order(number)).collect();
+    for (number, sheet) in written.iter().enumerate() {
+        run.painted(number, sheet, false);
+        run.painted(number, sheet, true);
+    }
+    let past = run.past();
+    for number in &past {
+        for room in ROOMS {
+            run.ask(*number, room, false);
+            run.ask(*number, room, true);
+        }
+    }
+    let sheets = written.iter().collect::<BTreeSet<_>>().len();
+    println!("orders: {} calls, {sheets} different sheets, {} numbers past the last, {} differences", run.calls, past.len(), run.differ);
+    if run.differ > 0 || sheets != COUNT {
+        exit(1);
+    }
+}
