@@ -10,6 +10,7 @@ mod color;
 mod falloff;
 mod geom;
 mod mathf;
+mod orders;
 mod paint;
 mod paintsheet;
 mod shape;
@@ -63,5 +64,6 @@ fn main() {
     shape::stored().write(&folder("replay_shapes"));
     sheet::paintings().write(&folder("replay_sheets"));
     sheet::patches().write(&folder("replay_patches"));
+    orders::write(&folder("replay_orders"));
     paintsheet::write(&given(2).join("paintsheet"), &given(1).join("paintsheet"));
 }

@@ -3,10 +3,47 @@ use answers::random::{Random, SEED};
 use sheets::{
     fixed::{self, fill, made, polygon, RED},
     make,
+    orders::{
+        self,
+        Step::{Fill, Pop, Push},
+    },
     text::{text, AT_HAND},
     Sheet,
 };
 use std::{fs, path::Path};
+
+/// What is seen of a small clip order: nothing, the fill, or what the clip leaves of it.
+const NOTHING: &str = "00000000 00000000 00000000 00000000
+00000000 00000000 00000000 00000000
+00000000 00000000 00000000 00000000
+00000000 00000000 00000000 00000000
+";
+const WHOLE: &str = "00FFFFFF 00FFFFFF 00FFFFFF 00000000
+00FFFFFF 00FFFFFF 00FFFFFF 00000000
+00FFFFFF 00FFFFFF 00FFFFFF 00000000
+00000000 00000000 00000000 00000000
+";
+const CUT: &str = "00000000 00000000 00000000 00000000
+00000000 00FFFFFF 00FFFFFF 00000000
+00000000 00FFFFFF 00FFFFFF 00000000
+00000000 00000000 00000000 00000000
+";
+
+/// Some small clip orders, named by their numbers.
+fn clip_orders() -> Vec<(String, Vec<u8>, &'static str)> {
+    let orders = [
+        (vec![], NOTHING),
+        (vec![Fill], WHOLE),
+        (vec![Push, Fill], CUT),
+        (vec![Pop, Fill], WHOLE),
+        (vec![Push, Pop, Fill], WHOLE),
+        (vec![Fill, Push, Pop], WHOLE),
+        (vec![Push, Push, Pop, Fill], CUT),
+        (vec![Pop, Push, Push, Pop, Pop, Fill], WHOLE),
+        (vec![Fill; 6], WHOLE),
+    ];
+    orders.into_iter().map(|(order, known)| (format!("order_{}", orders::number(&order)), orders::sheet(&order), known)).collect()
+}
 
 fn cases() -> Vec<(String, Vec<u8>, &'static str)> {
     let mut all = vec![];
@@ -52,6 +89,7 @@ fn cases() -> Vec<(String, Vec<u8>, &'static str)> {
         let mut random = Random(SEED + 20 + i);
         add(&format!("random_{i}"), make::on(&mut random, [16, 12], 12, 8).bytes(), "");
     }
+    all.extend(clip_orders());
     all
 }
 
