@@ -1,4 +1,4 @@
-/* Paints a small ticket, patches it, draws it call by call, and checks every answer.
+/* Paints a small ticket, patches it, draws it call by call, takes every small clip order, and checks every answer.
  *
  *   cc -std=c11 -Wall -Wextra -Werror -I bindings/c bindings/c/example.c -L target/staticlib -lmaldjupp -o example */
 #include "maldjupp.h"
@@ -184,6 +184,46 @@ static void shapes(void) {
           took(maldjupp_resize(canvas, H, W, px2, W * H)) && is_box(maldjupp_bounds(canvas), 0, 0, 0, H, W) && at(12, 8) == 0);
 }
 
+static int is_written(struct maldjupp_written w, uint32_t number, size_t len) { return w.number == number && w.item == 0 && w.len == len; }
+
+/* The bytes of a clip order by its own pairs: the end of the last item. */
+static size_t end_of(const uint8_t *sheet) {
+    const uint8_t *pair = sheet + 8 + 4 * sheet[8];
+    return sheet[8] == 0 ? 12 : (size_t)(pair[0] | pair[1] << 8) + (size_t)(pair[2] | pair[3] << 8);
+}
+
+/* Every small clip order, with a byte to spare, just enough and one too few. */
+static void orders(void) {
+    enum { COUNT = 1093, LONGEST = 348, ROOM = LONGEST + 1 };
+    uint8_t sheet[ROOM], last[ROOM] = {0}, marks[ROOM];
+    uint32_t px[16];
+    float none = 0;
+    size_t written = 0, another = 0, painted = 0, enough = 0, refused = 0, bytes = 0;
+    for (size_t i = 0; i < ROOM; i++) marks[i] = (uint8_t)(37 * i + 11);
+    for (size_t k = 0; k < COUNT; k++) {
+        memcpy(sheet, marks, ROOM);
+        size_t n = maldjupp_clip_order(k, sheet, ROOM).len;
+        written += 12 <= n && n <= LONGEST && n == end_of(sheet) && memcmp(sheet + n, marks + n, ROOM - n) == 0;
+        another += memcmp(sheet, last, ROOM) != 0;
+        painted += is(maldjupp_paint(sheet, n, px, 16, &none, 0), MALDJUPP_ACCEPTED, 0, 0, 0, 4, 4);
+        memcpy(last, sheet, ROOM), bytes += n, memcpy(sheet, marks, ROOM);
+        refused += is_written(maldjupp_clip_order(k, sheet, n - 1), MALDJUPP_BUFFER, 0) && memcmp(sheet, marks, ROOM) == 0;
+        enough += is_written(maldjupp_clip_order(k, sheet, n), MALDJUPP_ACCEPTED, n) && memcmp(sheet, last, ROOM) == 0;
+    }
+    check("1,093 clip orders are written, 189,556 bytes", written == COUNT && bytes == 189556);
+    check("each is another than the one before", another == COUNT);
+    check("each is painted without scratch", painted == COUNT);
+    check("just enough room is enough", enough == COUNT);
+    check("a byte less: refused 19, the buffer unaltered", refused == COUNT);
+    memcpy(sheet, marks, ROOM);
+    check("number 1,093: refused 23", is_written(maldjupp_clip_order(COUNT, sheet, ROOM), MALDJUPP_ORDER, 0));
+    check("also where there is no room: 23 before 19", is_written(maldjupp_clip_order(SIZE_MAX, sheet, 0), MALDJUPP_ORDER, 0));
+    check("refused, the buffer is not altered", memcmp(sheet, marks, ROOM) == 0);
+    check("number 6 is push and fill: four pixels",
+          is_written(maldjupp_clip_order(6, sheet, ROOM), MALDJUPP_ACCEPTED, 92) && maldjupp_paint(sheet, 92, px, 16, &none, 0).number == 0 &&
+              px[0] == 0 && px[5] == 0xFFFFFF && px[6] == 0xFFFFFF && px[9] == 0xFFFFFF && px[10] == 0xFFFFFF && px[2] == 0 && px[15] == 0);
+}
+
 int main(void) {
     static uint8_t old[MOST], new[MOST];
     static uint32_t px[W * H], fresh[W * H], before[W * H];
@@ -237,6 +277,7 @@ int main(void) {
     check("49 words of scratch: refused 9", !ticket_calls(brass, 8, scratch, 49) && memcmp(px2, fresh, sizeof fresh) != 0);
     calls();
     shapes();
+    orders();
 
     printf("example: %s\n", failed ? "FAILED" : "every answer is as it should be");
     return failed != 0;

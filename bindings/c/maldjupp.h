@@ -1,7 +1,7 @@
 /* Maldjupp: a sheet of shapes is painted and patched, or a canvas drawn on call by call, by the proved static library libmaldjupp.a, which
  * `rt staticlib maldjupp` writes.
  *
- * Sheet, pixels, points and scratch are lent for the call. Only what is lent is touched, whatever the bytes and numbers are, and nothing
+ * Sheet, buffer, pixels, points and scratch are lent for the call. Only what is lent is touched, whatever the bytes and numbers are, and nothing
  * is kept. Lent pieces must not overlap. A pointer whose length is 0 must not be null: give the address of anything.
  * Pixels stand row by row, each 0x00RRGGBB. */
 #ifndef MALDJUPP_H
@@ -30,7 +30,9 @@ enum maldjupp_number {
     MALDJUPP_DIFFERENCE = 10,  /* the sheets differ in size, ground or item count, or in a push or pop of a clip */
     MALDJUPP_STATE = 12,       /* a state that a canvas cannot be in */
     MALDJUPP_POINTS = 13,      /* over 64 points, or in a canvas call an odd count of coordinates */
-    MALDJUPP_MANY = 14         /* the sheets differ in more than 32 shapes */
+    MALDJUPP_MANY = 14,        /* the sheets differ in more than 32 shapes */
+    MALDJUPP_BUFFER = 19,      /* the sheet does not fit the buffer */
+    MALDJUPP_ORDER = 23        /* there is no clip order of this number: it is 1,093 or more */
 };
 
 /* An answer. The box is columns x0 up to but without x1, rows y0 up to but without y1. Refused, it is four zeros. */
@@ -52,6 +54,20 @@ struct maldjupp_reply maldjupp_paint(const uint8_t *sheet, size_t bytes, uint32_
  * sheet stays the old one. */
 struct maldjupp_reply maldjupp_patch(const uint8_t *old_sheet, size_t old_bytes, const uint8_t *new_sheet, size_t new_bytes,
                                      uint32_t *px, size_t pixels, float *scratch, size_t words);
+
+/* What a call that writes a sheet returns. */
+struct maldjupp_written {
+    uint32_t number; /* 0 where accepted, else one of the numbers above */
+    uint32_t item;   /* always 0 beside a clip order */
+    size_t len;      /* the bytes written; 0 where refused */
+};
+
+/* Writes the small clip order of a number, from 0, into a buffer of `room` bytes. The clip orders are all sheets of 0 to 6 items on a black
+ * canvas of 4 by 4, each item a push of the clip (1, 1, 2, 2), a pop, or an opaque white fill of (0, 0, 3, 3) with r 0; those of fewer items
+ * come first, and among equals a push stands before a pop before a fill, the first item weighing most. There are 1,093, of 12 to 348 bytes,
+ * and each is accepted by maldjupp_paint with 16 pixels and no scratch. Refused, by 23 for a number of 1,093 or more and then by 19 where the
+ * sheet does not fit, the buffer is not altered; accepted, its bytes past `len` are not. */
+struct maldjupp_written maldjupp_clip_order(size_t number, uint8_t *buf, size_t room);
 
 /* ---- The canvas, call by call
  *

@@ -37,11 +37,14 @@
 //! # Ok::<(), Box<dyn std::error::Error>>(())
 //! ```
 //!
+//! A program that shows sheets can be tried on [`clip_orders`], every small order of clips and fills.
+//!
 //! The library is found by the build script: in the folder that `MALDJUPP_LIB_DIR` names, else where `rt staticlib maldjupp` writes it.
 #![deny(unsafe_code)]
 #![warn(missing_docs)]
 
 mod canvas;
+mod orders;
 #[allow(unsafe_code)]
 mod raw;
 mod refusal;
@@ -50,6 +53,7 @@ mod ticket;
 mod values;
 
 pub use canvas::Canvas;
+pub use orders::{clip_order, clip_orders, ClipOrders, LONGEST_CLIP_ORDER};
 pub use refusal::{Error, Refusal, Refused, SheetError};
 pub use sheet::{Shape, SheetBuilder};
 pub use ticket::{to_ppm, Ticket};

@@ -9,6 +9,14 @@ pub struct Reply {
     pub area: IRect,
 }
 
+/// A number, the item that it names, and the bytes written.
+#[repr(C)]
+pub struct Written {
+    pub number: u32,
+    pub item: u32,
+    pub len: usize,
+}
+
 /// The state of a canvas: its sides, its clip, and the saved clips, of which `depth` are in use.
 #[repr(C)]
 #[derive(Clone, Copy, Debug, PartialEq, Eq)]
@@ -74,6 +82,7 @@ extern "C" {
         scratch: *mut f32,
         words: usize,
     ) -> Reply;
+    fn maldjupp_clip_order(number: usize, buf: *mut u8, room: usize) -> Written;
     fn maldjupp_new(w: i32, h: i32, px: *mut u32, pixels: usize) -> Done;
     fn maldjupp_resize(canvas: State, w: i32, h: i32, px: *mut u32, pixels: usize) -> Done;
     fn maldjupp_bounds(canvas: State) -> Boxed;
@@ -142,6 +151,11 @@ pub fn patch(old: &[u8], new: &[u8], px: &mut [u32], scratch: &mut [f32]) -> Rep
             scratch.len(),
         )
     }
+}
+
+/// Writes the clip order of a number, from 0, into a buffer.
+pub fn clip_order(number: usize, buf: &mut [u8]) -> Written {
+    unsafe { maldjupp_clip_order(number, buf.as_mut_ptr(), buf.len()) }
 }
 
 /// The calls of a canvas, each on its state and on px.

@@ -1,7 +1,7 @@
 //! Why the library refuses a call, and why a call of the builder is not carried out.
 use std::{error, fmt};
 
-/// Why the library refused a sheet, a patch or a call of a canvas.
+/// Why the library refused a sheet, a patch, a call of a canvas or a clip order.
 #[derive(Clone, Copy, Debug, PartialEq, Eq)]
 #[non_exhaustive]
 pub enum Refusal {
@@ -31,13 +31,17 @@ pub enum Refusal {
     Points,
     /// 14
     Many,
+    /// 19
+    Buffer,
+    /// 23
+    Order,
     /// A number that this crate does not know.
     Other(u32),
 }
 
 impl Refusal {
     /// Every refusal that a call gives.
-    pub const ALL: [Refusal; 13] = [
+    pub const ALL: [Refusal; 15] = [
         Refusal::SheetLength,
         Refusal::Header,
         Refusal::Pairs,
@@ -51,6 +55,8 @@ impl Refusal {
         Refusal::State,
         Refusal::Points,
         Refusal::Many,
+        Refusal::Buffer,
+        Refusal::Order,
     ];
 
     /// The number that the library returns.
@@ -69,6 +75,8 @@ impl Refusal {
             Refusal::State => 12,
             Refusal::Points => 13,
             Refusal::Many => 14,
+            Refusal::Buffer => 19,
+            Refusal::Order => 23,
             Refusal::Other(number) => number,
         }
     }
@@ -97,6 +105,8 @@ impl Refusal {
             Refusal::State => "The state is none that a canvas can be in.",
             Refusal::Points => "There are over 64 points.",
             Refusal::Many => "The sheets differ in more than 32 shapes.",
+            Refusal::Buffer => "The sheet does not fit the buffer.",
+            Refusal::Order => "There is no clip order of this number: it is 1,093 or more.",
             Refusal::Other(_) => "The library gave a number that this crate does not know.",
         }
     }
