@@ -20,4 +20,5 @@ pub use crate::report::buffer;
 pub use crate::report::differing;
 pub use crate::report::line;
 pub use crate::report::total;
+pub use crate::shapes::same_words;
 pub use crate::shapes::shape;

@@ -18,7 +18,7 @@ struct Tally {
     differ: u32,
 }
 
-fn one(b: bool) -> u32
+pub fn one(b: bool) -> u32
     ensures { λ r. ⌜ r ≤ 1 ⌝ }
 {
     if b { 1 } else { 0 }
@@ -43,7 +43,7 @@ fn count(bytes: &[u8], area: u32, f: u32) -> Tally {
     Tally { ran, differ }
 }
 
-fn print(name: &[u8], ran: u32, differ: u32) {
+pub fn print(name: &[u8], ran: u32, differ: u32) {
     io::write_all(1, name);
     io::write_all(1, b" ");
     io::print_decimal(1, ran as u64);

@@ -158,7 +158,7 @@ pub fn shape(bytes: &[u8], px: &mut [u32], scratch: &mut [f32]) -> u32 {
 }
 
 // Whether the pixels are the words from a place on.
-fn same_words(px: &[u32], bytes: &[u8], at: u32) -> bool {
+pub fn same_words(px: &[u32], bytes: &[u8], at: u32) -> bool {
     let mut place = at;
     let mut same = true;
     for i in 0..px.len() {
