@@ -12,7 +12,7 @@ use Rattle.geom.proofs.Bools.{and-both}
 use Rattle.sheet.specs.Bytes.{byteAt}
 use Rattle.sheet.specs.Kinds.{kindAt, itemNumber, depthAfter}
 use Rattle.sheet.specs.Check.{countOf, offsetOf, lengthOf, bytesAt, sizeOk, headerOk, pairsFrom, pairsOk, headNumber, numberAt, depthAt, verdict, itemsFrom, sheetCheck}
-use Rattle.sheet.proofs.Local.{number-alone, kind-alone}
+use Rattle.sheet.proofs.Local.{number-own, kind-own}
 use Rattle.encode.specs.Encode.{u16, pairs, joined, encoded}
 
 -- the bytes of the items
@@ -98,8 +98,8 @@ module _ (s : List ℕ) (small : length s ≤ 60000) where
       let o = laid-offset b bs k at rest l in
       let n = laid-length b bs k at rest l in
       let own : take (length b) (drop at s) ≡ b = rw (← o, ← n) (laid-bytes b bs k at rest l) in
-      let zero-number : itemNumber s at (length b) depth ≡ 0 = number-alone s at (length b) depth (rw own (h .0)) in
-      let same-kind : kindAt s at ≡ kindAt b 0 = sym (kind-alone s at (length b) (h .1)) ∙ ap (λ (x : List ℕ). kindAt x 0) own in
+      let zero-number : itemNumber s at (length b) depth ≡ 0 = number-own s at (length b) depth (rw own (h .0)) in
+      let same-kind : kindAt s at ≡ kindAt b 0 = sym (kind-own s at (length b) (h .1)) ∙ ap (λ (x : List ℕ). kindAt x 0) own in
       rw (o, n, zero-number, same-kind) (laid-check bs (k + 1) (at + length b) rest (depthAfter (kindAt b 0) depth) (laid-next b bs k at rest l) (h .2))
 
 -- ---- the whole sheet
@@ -140,7 +140,8 @@ module _ (head : List ℕ) (its : List (List ℕ)) (eight : length head ≡ 8) w
   encoded-check small few header sound =
       let l = encoded-laid small in
       let n = encoded-count few in
-      let size : sizeOk (encoded head its) ≡ true = and-both (le-leb 12 (length (encoded head its)) (omega (arith, encoded-length))) (le-leb (length (encoded head its)) 60000 small) in
+      let size : sizeOk (encoded head its) ≡ true =
+      and-both (le-leb 12 (length (encoded head its)) (omega (arith, encoded-length))) (le-leb (length (encoded head its)) 60000 small) in
       let runs = laid-pairs (encoded head its) small its 0 (12 + 4 * length its) (joined its) l in
       let checks = laid-check (encoded head its) small its 0 (12 + 4 * length its) (joined its) 0 l sound in
       rw (size, header, n, runs) checks

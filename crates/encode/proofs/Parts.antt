@@ -1,6 +1,6 @@
--- A sheet put into a buffer part by part: its first 12 bytes, then its pairs, then its items; and what its call then promises. Assumes nothing.
+-- A sheet put into a buffer part by part: its header, its pairs, its items; and what its call then promises. Assumes nothing.
 use Prim.Native.Nat.{ℕ, _+_, _*_, _≤_, _<_}
-use mathlib.Core.List.{List, [], _∷_, _++_, append-assoc}
+use mathlib.Core.List.{List, _∷_, _++_, append-assoc}
 use mathlib.Core.Path.{_≡_, refl, ap, _∙_}
 use native.Mathlib.Omega.{arith}
 use borrow.Author.Tests.{le-leb, lt-leb}
@@ -8,7 +8,7 @@ use lib.ListN.{length, length-append}
 use Rattle.encode.specs.Encode.{u16, pairs, joined, encoded, fitNumber, Wrote}
 use Rattle.encode.specs.Placed.{placed}
 use Rattle.encode.specs.declared.Written.{Written}
-use Rattle.encode.proofs.Placing.{placed-more, placed-first, length-fits}
+use Rattle.encode.proofs.Placing.{placed-more, placed-first}
 use Rattle.encode.proofs.Laid.{length-pairs, length-joined, encoded-length}
 
 -- ---- one item more
@@ -24,21 +24,17 @@ pub joined-turn : (at : ℕ) (b : List ℕ) (bs : List (List ℕ)) (buf : List �
 unfolding joined
 joined-turn at b bs buf room = placed-more at b (joined bs) buf room
 
--- ---- the three parts
-
--- the first 12 bytes of a sheet of n items
-abbrev pub front : List ℕ → ℕ → List ℕ
-front head n = head ++ (u16 n ++ (0 ∷ 0 ∷ []))
+-- ---- the parts
 
 module _ (head : List ℕ) (its : List (List ℕ)) (eight : length head ≡ 8) (buf : List ℕ) (room : length (encoded head its) ≤ length buf) where
+  abbrev count : List ℕ
+  count = u16 (length its) ++ u16 0
+
   abbrev run : List ℕ
   run = pairs (12 + 4 * length its) its
 
-  abbrev first : List ℕ
-  first = front head (length its)
-
-  twelve : length first ≡ 12
-  twelve = rw (length-append head (u16 (length its) ++ (0 ∷ 0 ∷ [])), eight)
+  twelve : length (head ++ count) ≡ 12
+  twelve = rw (length-append head count, eight)
 
   run-length : length run ≡ 4 * length its
   run-length = length-pairs (12 + 4 * length its) its
@@ -46,23 +42,28 @@ module _ (head : List ℕ) (its : List (List ℕ)) (eight : length head ≡ 8) (
   pub items-room : 12 + 4 * length its + length (joined its) ≤ length buf
   items-room = omega (arith, encoded-length head its eight, length-joined its)
 
-  pub front-kept : length (placed 0 first buf) ≡ length buf
-  front-kept = length-fits 0 first buf (omega (arith, twelve, items-room))
-
-  pub pairs-kept : length (placed 12 run (placed 0 first buf)) ≡ length buf
-  pairs-kept = length-fits 12 run (placed 0 first buf) (omega (arith, run-length, front-kept, items-room)) ∙ front-kept
-
-  one-list : first ++ run ++ joined its ≡ encoded head its
+  one-list : head ++ count ++ run ++ joined its ≡ encoded head its
   unfolding encoded
-  one-list = rw (append-assoc head (u16 (length its) ++ (0 ∷ 0 ∷ [])) run, append-assoc head (u16 (length its) ++ (0 ∷ 0 ∷ run)) (joined its))
+  one-list = rw (append-assoc head count run, append-assoc head (count ++ run) (joined its))
 
-  pub parts : placed (12 + 4 * length its) (joined its) (placed 12 run (placed 0 first buf)) ≡ placed 0 (encoded head its) buf
-  parts =
-      let two : placed 12 run (placed 0 first buf) ≡ placed 0 (first ++ run) buf =
-      ap (λ (n : ℕ). placed n run (placed 0 first buf)) (omega (arith, twelve)) ∙ placed-more 0 first run buf (omega (arith, twelve, run-length, items-room)) in
-      let both : 0 + length (first ++ run) ≡ 12 + 4 * length its = rw (length-append first run) (omega (arith, twelve, run-length)) in
-      let all = placed-more 0 (first ++ run) (joined its) buf (omega (arith, both, items-room)) in
-      rw two (rw both at all) ∙ ap (λ (x : List ℕ). placed 0 x buf) one-list
+  front : placed 8 count (placed 0 head buf) ≡ placed 0 (head ++ count) buf
+  front =
+      let e : 0 + length head ≡ 8 = omega (arith, eight) in
+      rw e at (placed-more 0 head count buf (omega (arith, eight, items-room)))
+
+  with-pairs : placed 12 run (placed 0 (head ++ count) buf) ≡ placed 0 (head ++ count ++ run) buf
+  with-pairs =
+      let e : 0 + length (head ++ count) ≡ 12 = omega (arith, twelve) in
+      rw e at (placed-more 0 (head ++ count) run buf (omega (arith, twelve, run-length, items-room)))
+
+  with-items : placed (12 + 4 * length its) (joined its) (placed 0 (head ++ count ++ run) buf) ≡ placed 0 (head ++ count ++ run ++ joined its) buf
+  with-items =
+      let e : 0 + length (head ++ count ++ run) ≡ 12 + 4 * length its = rw (length-append (head ++ count) run) (omega (arith, twelve, run-length)) in
+      rw e at (placed-more 0 (head ++ count ++ run) (joined its) buf (omega (arith, e, items-room)))
+
+  -- bytes 0 to 7, the count and two zeros, the pairs, the items
+  pub parts : placed (12 + 4 * length its) (joined its) (placed 12 run (placed 8 count (placed 0 head buf))) ≡ placed 0 (encoded head its) buf
+  parts = rw (front, with-pairs) (with-items ∙ ap (λ (x : List ℕ). placed 0 x buf) one-list)
 
 -- ---- what is promised
 

@@ -1,6 +1,6 @@
-// Writing a sheet into a lent buffer: bytes and numbers put at a place, and what a call that writes a sheet returns.
+// Writing a sheet into a lent buffer: bytes and pairs of numbers put at a place, and what a call that writes a sheet returns.
 ghost use mathlib.Core.Path.{_≡_};
-ghost use mathlib.Core.List.{[], _∷_, _++_};
+ghost use mathlib.Core.List.{_++_};
 ghost use Prim.Native.Nat.{_+_, _≤_};
 ghost use lib.ListN.{length};
 ghost use Rattle.encode.specs.Encode.{u16};
@@ -48,35 +48,22 @@ pub fn put(buf: &mut [u8], at: usize, bytes: &[u8])
     store(buf, at, bytes);
 }
 
-// The low 16 bits of a number as two bytes, the lower first.
-fn bytes_of(n: usize) -> [u8; 2]
-    ensures { λ r. ⌜ r ≡ u16 n ⌝ }
+// Two numbers of 16 bits, the lower byte of each first.
+fn two_numbers(a: usize, b: usize) -> [u8; 4]
+    ensures { λ r. ⌜ r ≡ u16 a ++ u16 b ⌝ }
 {
-    [(n % 256) as u8, (n / 256 % 256) as u8]
+    [
+        (a % 256) as u8,
+        (a / 256 % 256) as u8,
+        (b % 256) as u8,
+        (b / 256 % 256) as u8,
+    ]
 }
 
-// The same, put at a place.
-pub fn put_u16(buf: &mut [u8], at: usize, n: usize)
-    ensures { λ _. ⌜ now (buf .exit) ≡ placed at (u16 n) (now (buf .entry)) ⌝ }
+// The same, put at a place: an item's offset and length, or the count of items and two zeros.
+pub fn put_pair(buf: &mut [u8], at: usize, a: usize, b: usize)
+    ensures { λ _. ⌜ now (buf .exit) ≡ placed at (u16 a ++ u16 b) (now (buf .entry)) ⌝ }
 {
-    let b = bytes_of(n);
-    put(buf, at, &b);
-}
-
-// The pair of an item, its offset and its length, put at a place.
-pub fn put_pair(buf: &mut [u8], place: usize, offset: usize, len: usize)
-    requires { ⌜ place + 4 ≤ length (now buf) ⌝ }
-    ensures { λ _. ⌜ now (buf .exit) ≡ placed place (u16 offset ++ u16 len) (now (buf .entry)) ⌝ }
-{
-    put_u16(buf, place, offset);
-    put_u16(buf, place + 2, len);
-}
-
-// The first 12 bytes of a sheet: bytes 0 to 7 as they are given, the count of items, two zeros.
-pub fn put_front(buf: &mut [u8], head: &[u8], count: usize)
-    requires { ⌜ (length (now head) ≡ 8) × (12 ≤ length (now buf)) ⌝ }
-    ensures { λ _. ⌜ now (buf .exit) ≡ placed 0 (now (head .entry) ++ (u16 count ++ (0 ∷ 0 ∷ []))) (now (buf .entry)) ⌝ }
-{
-    put(buf, 0, head);
-    put_pair(buf, 8, count, 0);
+    let bytes = two_numbers(a, b);
+    put(buf, at, &bytes);
 }

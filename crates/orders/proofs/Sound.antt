@@ -27,7 +27,9 @@ use Rattle.orders.specs.Orders.{push, pop, fill, item, head, asSheet}
 -- what holds of the three items holds of each
 pub by-item : (P : List ℕ → Type 0) → P push → P pop → P fill → (kind : ℕ) → P (item kind)
 unfolding item
-by-item P a b c kind = split (eqb kind 1) (λ t. P (cond t push (cond (eqb kind 2) pop fill))) (λ e. a) (λ e. split (eqb kind 2) (λ t. P (cond t pop fill)) (λ f. b) (λ f. c))
+by-item P a b c kind =
+    split (eqb kind 1) (λ t. P (cond t push (cond (eqb kind 2) pop fill))) (λ e. a)
+    (λ e. split (eqb kind 2) (λ t. P (cond t pop fill)) (λ f. b) (λ f. c))
 
 push-ok : (depth : ℕ) → depth < 16 → itemNumber push 0 20 depth ≡ 0
 unfolding le lt eq neg ofBits floatOk allAt layoutAt lengthOk pointsOk paintBytesOk bytesOk paintFloatsOk floatsOk savedOk itemNumber

@@ -31,7 +31,8 @@ less-left (suc n) rest h m = let e : suc n - 1 ≡ n = omega arith in rw e (omeg
 -- a kind set before those that are set
 set-before : (kinds : List ℕ) (n kind : ℕ) → n < length kinds → drop n (set kinds n kind) ≡ kind ∷ drop (suc n) kinds
 set-before kinds n kind h =
-    drop-cons (set kinds n kind) n 0 (rw (length-set kinds n kind) h) ∙ rw (getD-set-same kinds n kind 0 h, drop-set-lt (suc n) kinds n kind (omega arith))
+    drop-cons (set kinds n kind) n 0 (rw (length-set kinds n kind) h)
+    ∙ rw (getD-set-same kinds n kind 0 h, drop-set-lt (suc n) kinds n kind (omega arith))
 
 pub kinds-turn : (kinds : List ℕ) (from rest : ℕ) → 0 < rest → 1 ≤ from → from ≤ length kinds
     → kindsIn (from - 1) ((rest - 1) / 3) ++ drop (from - 1) (set kinds (from - 1) ((rest - 1) % 3 + 1)) ≡ kindsIn from rest ++ drop from kinds

@@ -2,16 +2,15 @@
 // is worked with as the kinds of its items.
 use encode::Written;
 use encode::put;
-use encode::put_front;
 use encode::put_pair;
 use encode::refused;
 ghost use mathlib.Core.Path.{_≡_};
-ghost use mathlib.Core.List.{map};
+ghost use mathlib.Core.List.{map, _++_};
 ghost use Prim.Native.Nat.{_+_, _*_, _≤_};
 ghost use lib.ListN.{length, drop};
-ghost use Rattle.encode.specs.Encode.{pairs, joined, fitNumber, Wrote};
+ghost use Rattle.encode.specs.Encode.{u16, pairs, joined, fitNumber, Wrote};
 ghost use Rattle.encode.specs.Placed.{placed};
-ghost use Rattle.orders.specs.Orders.{item, asSheet, orderNumber, orderSheet};
+ghost use Rattle.orders.specs.Orders.{item, head, asSheet, orderNumber, orderSheet};
 ghost use Rattle.orders.specs.Kinds.{kindsIn};
 
 // The kinds of the order of a number: the last of the lent six are set, and the place of the first is returned.
@@ -71,7 +70,15 @@ fn sheet_len(kinds: &[u8]) -> usize
     len
 }
 
-// Its pairs.
+// The header of a sheet: bytes 0 to 7, the count of its items, two zeros.
+fn put_header(buf: &mut [u8], count: usize)
+    ensures { λ _. ⌜ now (buf .exit) ≡ placed 8 (u16 count ++ u16 0) (placed 0 head (now (buf .entry))) ⌝ }
+{
+    put(buf, 0, b"\x04\0\x04\0\0\0\0\0");
+    put_pair(buf, 8, count, 0);
+}
+
+// The pairs of its items.
 fn put_pairs(buf: &mut [u8], kinds: &[u8])
     requires { ⌜ (length (now kinds) ≤ 6) × (12 + 4 * length (now kinds) ≤ length (now buf)) ⌝ }
     ensures { λ _. ⌜ now (buf .exit) ≡ placed 12 (pairs (12 + 4 * length (now (kinds .entry))) (map item (now (kinds .entry)))) (now (buf .entry)) ⌝ }
@@ -101,7 +108,7 @@ fn put_sheet(buf: &mut [u8], kinds: &[u8])
     requires { ⌜ (length (now kinds) ≤ 6) × (length (asSheet (now kinds)) ≤ length (now buf)) ⌝ }
     ensures { λ _. ⌜ now (buf .exit) ≡ placed 0 (asSheet (now (kinds .entry))) (now (buf .entry)) ⌝ }
 {
-    put_front(buf, b"\x04\0\x04\0\0\0\0\0", kinds.len());
+    put_header(buf, kinds.len());
     put_pairs(buf, kinds);
     put_items(buf, kinds);
 }

@@ -89,7 +89,14 @@ fn paints(sheet: &[u8], bytes: &[u8], at: u32, px: &mut [u32]) -> bool {
 }
 
 // Whether the sheet that the call writes has a length, and paints the stored pixels.
-fn written_paints(buf: &mut [u8], k: usize, len: usize, bytes: &[u8], at: u32, px: &mut [u32]) -> bool {
+fn written_paints(
+    buf: &mut [u8],
+    k: usize,
+    len: usize,
+    bytes: &[u8],
+    at: u32,
+    px: &mut [u32],
+) -> bool {
     let w = clip_order(k, buf);
     let n = least(w.len, buf.len());
     (w.len == len) & paints(&buf[..n], bytes, at, px)

@@ -140,19 +140,33 @@ accepted-item s k e h =
     let a = accepted s e in
     from-on s (countOf s) 0 k (a .items) (omega arith) (a .pairs) (omega arith) zero-le h
 
--- what its tests say
+-- what the rule of lengths says: a known kind, and its length
+pub record Sized (s : List ℕ) (at len : ℕ) : Type 0 where
+  pub low : 1 ≤ kindAt s at
+  pub high : kindAt s at ≤ 7
+  pub four : 4 ≤ len
+  pub exact : len ≡ layoutAt s at .length
+
+pub sized : (s : List ℕ) (at len : ℕ) → lengthOk s at len ≡ true → Sized s at len
+unfolding lengthOk
+sized s at len long =
+    let kind = kindAt s at in
+    let first = and-left _ (eqb len (layoutAt s at .length)) long in
+    let known = and-left _ (leb 4 len) first in
+    record {
+      low = leb-true _ _ (and-left _ (leb kind 7) known);
+      high = leb-true _ _ (and-right (leb 1 kind) _ known);
+      four = leb-true _ _ (and-right (leb 1 kind && leb kind 7) _ first);
+      exact = eqb-true _ _ (and-right (leb 1 kind && leb kind 7 && leb 4 len) _ long);
+    }
+
+-- what an item's tests say
 module _ (s : List ℕ) (k : ℕ) (a : AcceptedItem s k) where
   pub kind-known : (1 ≤ kindAt s (offsetOf s k)) × (kindAt s (offsetOf s k) ≤ 7)
-  unfolding lengthOk
-  kind-known =
-      let known = and-left _ (leb 4 (lengthOf s k)) (and-left _ (eqb (lengthOf s k) (layoutAt s (offsetOf s k) .length)) (a .long)) in
-      (leb-true _ _ (and-left _ (leb (kindAt s (offsetOf s k)) 7) known), leb-true _ _ (and-right (leb 1 (kindAt s (offsetOf s k))) _ known))
+  kind-known = let z = sized s (offsetOf s k) (lengthOf s k) (a .long) in (z .low, z .high)
 
   pub length-is : lengthOf s k ≡ layoutAt s (offsetOf s k) .length
-  unfolding lengthOk
-  length-is =
-      let kind = kindAt s (offsetOf s k) in
-      eqb-true _ _ (and-right (leb 1 kind && leb kind 7 && leb 4 (lengthOf s k)) _ (a .long))
+  length-is = sized s (offsetOf s k) (lengthOf s k) (a .long) .exact
 
   pub few-points : kindAt s (offsetOf s k) ≡ 6 → pointsAt s (offsetOf s k) ≤ 64
   unfolding pointsOk

@@ -1,23 +1,22 @@
 -- The checks of an item read its own bytes alone: what they say of the sheet at its offset they say of those bytes. Assumes nothing.
 use Prim.Native.Nat.{ℕ, zero, suc, _+_, _*_, _<_, _≤_}
 use mathlib.Core.Path.{_≡_, refl, sym, ap, subst, _∙_}
-use mathlib.Core.Bool.{Bool, true, false, cond, not, _&&_, _||_}
+use mathlib.Core.Bool.{Bool, true, _&&_, _||_}
 use mathlib.Core.List.{List}
 use mathlib.Core.Logic.{⊎-elim}
 use native.Mathlib.Nat.{mul-suc, zero-add, eq-or-lt-of-le}
 use native.Mathlib.Omega.{arith}
-use lib.Dec.{leb, eqb}
+use lib.Dec.{eqb}
 use lib.ListN.{take, drop}
 use lib.Seq.{getD-take, getD-drop}
-use borrow.Author.Tests.{leb-true, eqb-true, eqb-false, ne-eqb}
-use Rattle.geom.proofs.Bools.{split, and-left, and-right}
-use Rattle.sheet.specs.Bytes.{byteAt, floatAt, zeroAt, floatOkAt, allAt, zeros, floats}
-use Rattle.gfx.specs.Calls.{unless}
+use borrow.Author.Tests.{eqb-false, ne-eqb}
 use Rattle.gfx.proofs.Answers.{passed}
+use Rattle.geom.proofs.Bools.{split}
+use Rattle.sheet.specs.Bytes.{byteAt, zeroAt, floatOkAt, allAt, zeros, floats}
 use Rattle.sheet.specs.Kinds.{kindAt, pointsAt, layoutOf, layoutAt, paintLayout, lengthOk, pointsOk, paintBytesOk, bytesOk, paintFloatsOk, floatsOk, savedOk, itemNumber}
 use Rattle.sheet.specs.Check.{offsetOf, lengthOf, bytesAt}
 use Rattle.sheet.specs.declared.kinds.Layout.{Layout}
-use Rattle.sheet.proofs.Accepted.{AcceptedItem, kind-known, length-is}
+use Rattle.sheet.proofs.Accepted.{AcceptedItem, Sized, sized}
 
 -- tests at n places from p on, and from q on, that say the same: at each place x from p on within len, and at x + at
 module _ (f g : ℕ → Bool) (at step len : ℕ) (same : (x : ℕ) → x + step ≤ len → f x ≡ g (at + x)) where
@@ -130,6 +129,75 @@ module _ (s : List ℕ) (at len : ℕ) where
       let r = paint-room (byteAt s q) in
       rw (byte p q e (omega arith), floats-same (p + 12) (q + 12) (paintLayout (byteAt s q) .floats) (omega arith) (omega (arith, r .float)))
 
+-- ---- an item of four bytes or more
+
+module _ (s : List ℕ) (at len : ℕ) (four : 4 ≤ len) where
+  pub kind-own : kindAt (own s at len) 0 ≡ kindAt s at
+  kind-own = byte s at len 0 at (omega arith) (omega arith)
+
+  points-own : pointsAt (own s at len) 0 ≡ pointsAt s at
+  points-own = rw (byte s at len 2 (at + 2) (omega arith) (omega arith), byte s at len 3 (at + 2 + 1) (omega arith) (omega arith))
+
+  layout-own : layoutAt (own s at len) 0 ≡ layoutAt s at
+  unfolding layoutAt
+  layout-own = rw (kind-own, points-own)
+
+  long-own : lengthOk (own s at len) 0 len ≡ lengthOk s at len
+  unfolding lengthOk
+  long-own = rw (layout-own, kind-own)
+
+  points-ok-own : pointsOk (own s at len) 0 ≡ pointsOk s at
+  unfolding pointsOk
+  points-ok-own = rw (kind-own, points-own)
+
+  saved-own : (depth : ℕ) → savedOk (own s at len) 0 depth ≡ savedOk s at depth
+  unfolding savedOk
+  saved-own depth = rw kind-own
+
+-- ---- an item of its kind's length
+
+module _ (s : List ℕ) (at len : ℕ) (long : lengthOk s at len ≡ true) where
+  abbrev f : Layout
+  f = layoutAt s at
+
+  fits : Sized s at len
+  fits = sized s at len long
+
+  room : Room f
+  unfolding layoutAt
+  room = layout-room (pointsAt s at) (kindAt s at) (fits .low) (fits .high)
+
+  -- its paint, where it has one
+  with-paint : (test : List ℕ → ℕ → Bool) → ((p q : ℕ) → at + p ≡ q → p + 28 ≤ len → test (own s at len) p ≡ test s q)
+      → (eqb (f .paint) 0 || test (own s at len) (f .paint)) ≡ (eqb (f .paint) 0 || test s (at + f .paint))
+  with-paint test same =
+      split (eqb (f .paint) 0) (λ t. (t || test (own s at len) (f .paint)) ≡ (t || test s (at + f .paint))) (λ e. refl)
+      (λ e. same (f .paint) (at + f .paint) refl (omega (arith, room .paint (omega (arith, eqb-false (f .paint) 0 e)), fits .exact)))
+
+  bytes-own : bytesOk (own s at len) 0 ≡ bytesOk s at
+  unfolding bytesOk
+  bytes-own =
+      rw (
+        layout-own s at len (fits .four),
+        kind-own s at len (fits .four),
+        zero-add (f .zero),
+        zero-add (f .paint),
+        zeros-same s at len (f .zero) (at + f .zero) (f .zeros) refl (omega (arith, room .zero, fits .exact)),
+        byte s at len 1 (at + 1) refl (omega (arith, fits .four)),
+        with-paint paintBytesOk (paint-bytes s at len),
+      )
+
+  floats-own : floatsOk (own s at len) 0 ≡ floatsOk s at
+  unfolding floatsOk
+  floats-own =
+      rw (
+        layout-own s at len (fits .four),
+        zero-add (f .float),
+        zero-add (f .paint),
+        floats-same s at len (f .float) (at + f .float) (f .floats) refl (omega (arith, room .float, fits .exact)),
+        with-paint paintFloatsOk (paint-floats s at len),
+      )
+
 -- ---- an item of an accepted sheet
 
 module _ (s : List ℕ) (k : ℕ) (a : AcceptedItem s k) where
@@ -139,146 +207,31 @@ module _ (s : List ℕ) (k : ℕ) (a : AcceptedItem s k) where
   abbrev len : ℕ
   len = lengthOf s k
 
-  abbrev f : Layout
-  f = layoutAt s at
-
-  long : 4 ≤ len
-  unfolding lengthOk
-  long = leb-true _ _ (and-right (leb 1 (kindAt s at) && leb (kindAt s at) 7) _ (and-left _ (eqb len (f .length)) (a .long)))
-
   pub kind-same : kindAt (bytesAt s k) 0 ≡ kindAt s at
-  kind-same = byte s at len 0 at (omega arith) (omega (arith, long))
+  kind-same = kind-own s at len (fits s at len (a .long) .four)
 
   pub points-same : pointsAt (bytesAt s k) 0 ≡ pointsAt s at
-  points-same = rw (byte s at len 2 (at + 2) (omega arith) (omega (arith, long)), byte s at len 3 (at + 2 + 1) (omega arith) (omega (arith, long)))
-
-  layout-same : layoutAt (bytesAt s k) 0 ≡ f
-  unfolding layoutAt
-  layout-same = rw (kind-same, points-same)
-
-  room : Room f
-  unfolding layoutAt
-  room = layout-room (pointsAt s at) (kindAt s at) (kind-known s k a .0) (kind-known s k a .1)
-
-  -- its paint, where it has one
-  with-paint : (test : List ℕ → ℕ → Bool) → ((p q : ℕ) → at + p ≡ q → p + 28 ≤ len → test (bytesAt s k) p ≡ test s q)
-      → (eqb (f .paint) 0 || test (bytesAt s k) (f .paint)) ≡ (eqb (f .paint) 0 || test s (at + f .paint))
-  with-paint test same =
-      split (eqb (f .paint) 0) (λ t. (t || test (bytesAt s k) (f .paint)) ≡ (t || test s (at + f .paint))) (λ e. refl)
-      (λ e. same (f .paint) (at + f .paint) refl
-      (omega (arith, room .paint (omega (arith, eqb-false (f .paint) 0 e)), length-is s k a)))
+  points-same = points-own s at len (fits s at len (a .long) .four)
 
   pub bytes-same : bytesOk (bytesAt s k) 0 ≡ bytesOk s at
-  unfolding bytesOk
-  bytes-same =
-      rw (
-        layout-same,
-        kind-same,
-        zero-add (f .zero),
-        zero-add (f .paint),
-        zeros-same s at len (f .zero) (at + f .zero) (f .zeros) refl (omega (arith, room .zero, length-is s k a)),
-        byte s at len 1 (at + 1) refl (omega (arith, long)),
-        with-paint paintBytesOk (paint-bytes s at len),
-      )
+  bytes-same = bytes-own s at len (a .long)
 
   pub floats-same-item : floatsOk (bytesAt s k) 0 ≡ floatsOk s at
-  unfolding floatsOk
-  floats-same-item =
-      rw (
-        layout-same,
-        zero-add (f .float),
-        zero-add (f .paint),
-        floats-same s at len (f .float) (at + f .float) (f .floats) refl (omega (arith, room .float, length-is s k a)),
-        with-paint paintFloatsOk (paint-floats s at len),
-      )
+  floats-same-item = floats-own s at len (a .long)
 
--- ---- the other way round: an item that has no number by its own bytes has none in the sheet
+-- ---- an item that has no number by its own bytes has none in the sheet
 
--- the kind of an item of four bytes or more
-pub kind-alone : (s : List ℕ) (at len : ℕ) → 4 ≤ len → kindAt (take len (drop at s)) 0 ≡ kindAt s at
-kind-alone s at len h = byte s at len 0 at (omega arith) (omega arith)
-
-module _ (s : List ℕ) (at len depth : ℕ) (e : itemNumber (take len (drop at s)) 0 len depth ≡ 0) where
-  abbrev alone : List ℕ
-  alone = take len (drop at s)
-
-  passed-long : (lengthOk alone 0 len ≡ true) × (unless (pointsOk alone 0) 13 (unless (bytesOk alone 0) 5 (unless (floatsOk alone 0) 6 (unless (savedOk alone 0 depth) 7 0))) ≡ 0)
-  unfolding itemNumber
-  passed-long = passed (lengthOk alone 0 len) 3 _ e
-
-  four : 4 ≤ len
-  unfolding lengthOk
-  four = leb-true _ _ (and-right (leb 1 (kindAt alone 0) && leb (kindAt alone 0) 7) _ (and-left _ (eqb len (layoutAt alone 0 .length)) (passed-long .0)))
-
-  known : (1 ≤ kindAt alone 0) × (kindAt alone 0 ≤ 7)
-  unfolding lengthOk
-  known =
-      let both = and-left _ (leb 4 len) (and-left _ (eqb len (layoutAt alone 0 .length)) (passed-long .0)) in
-      (leb-true _ _ (and-left _ (leb (kindAt alone 0) 7) both), leb-true _ _ (and-right (leb 1 (kindAt alone 0)) _ both))
-
-  kind-is : kindAt alone 0 ≡ kindAt s at
-  kind-is = kind-alone s at len four
-
-  points-is : pointsAt alone 0 ≡ pointsAt s at
-  points-is = rw (byte s at len 2 (at + 2) (omega arith) (omega (arith, four)), byte s at len 3 (at + 2 + 1) (omega arith) (omega (arith, four)))
-
-  layout-is : layoutAt alone 0 ≡ layoutAt s at
-  unfolding layoutAt
-  layout-is = rw (kind-is, points-is)
-
-  sized : len ≡ layoutAt s at .length
-  unfolding lengthOk
-  sized =
-      eqb-true _ _ (and-right (leb 1 (kindAt alone 0) && leb (kindAt alone 0) 7 && leb 4 len) _ (passed-long .0)) ∙ ap (λ (f : Layout). f .length) layout-is
-
-  space : Room (layoutAt s at)
-  unfolding layoutAt
-  space = layout-room (pointsAt s at) (kindAt s at) (rw kind-is at (known .0)) (rw kind-is at (known .1))
-
-  -- its paint, where it has one
-  paint-alone : (test : List ℕ → ℕ → Bool) → ((p q : ℕ) → at + p ≡ q → p + 28 ≤ len → test alone p ≡ test s q)
-      → (eqb (layoutAt s at .paint) 0 || test alone (layoutAt s at .paint)) ≡ (eqb (layoutAt s at .paint) 0 || test s (at + layoutAt s at .paint))
-  paint-alone test same =
-      split (eqb (layoutAt s at .paint) 0) (λ t. (t || test alone (layoutAt s at .paint)) ≡ (t || test s (at + layoutAt s at .paint))) (λ z. refl)
-      (λ z. same (layoutAt s at .paint) (at + layoutAt s at .paint) refl
-      (omega (arith, space .paint (omega (arith, eqb-false (layoutAt s at .paint) 0 z)), sized)))
-
-  bytes-is : bytesOk alone 0 ≡ bytesOk s at
-  unfolding bytesOk
-  bytes-is =
-      rw (
-        layout-is,
-        kind-is,
-        zero-add (layoutAt s at .zero),
-        zero-add (layoutAt s at .paint),
-        zeros-same s at len (layoutAt s at .zero) (at + layoutAt s at .zero) (layoutAt s at .zeros) refl (omega (arith, space .zero, sized)),
-        byte s at len 1 (at + 1) refl (omega (arith, four)),
-        paint-alone paintBytesOk (paint-bytes s at len),
-      )
-
-  floats-is : floatsOk alone 0 ≡ floatsOk s at
-  unfolding floatsOk
-  floats-is =
-      rw (
-        layout-is,
-        zero-add (layoutAt s at .float),
-        zero-add (layoutAt s at .paint),
-        floats-same s at len (layoutAt s at .float) (at + layoutAt s at .float) (layoutAt s at .floats) refl (omega (arith, space .float, sized)),
-        paint-alone paintFloatsOk (paint-floats s at len),
-      )
-
-  long-is : lengthOk alone 0 len ≡ lengthOk s at len
-  unfolding lengthOk
-  long-is = rw (layout-is, kind-is)
-
-  points-ok : pointsOk alone 0 ≡ pointsOk s at
-  unfolding pointsOk
-  points-ok = rw (kind-is, points-is)
-
-  saved-ok : savedOk alone 0 depth ≡ savedOk s at depth
-  unfolding savedOk
-  saved-ok = rw kind-is
-
-  pub number-alone : itemNumber s at len depth ≡ 0
-  unfolding itemNumber
-  number-alone = rw (← long-is, ← points-ok, ← bytes-is, ← floats-is, ← saved-ok) e
+pub number-own : (s : List ℕ) (at len depth : ℕ) → itemNumber (own s at len) 0 len depth ≡ 0 → itemNumber s at len depth ≡ 0
+unfolding itemNumber
+number-own s at len depth e =
+    let x = own s at len in
+    let alone = passed (lengthOk x 0 len) 3 _ e .0 in
+    let four = sized x 0 len alone .four in
+    let long : lengthOk s at len ≡ true = sym (long-own s at len four) ∙ alone in
+    rw (
+      ← long-own s at len four,
+      ← points-ok-own s at len four,
+      ← bytes-own s at len long,
+      ← floats-own s at len long,
+      ← saved-own s at len four depth,
+    ) e

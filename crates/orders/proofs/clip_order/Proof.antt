@@ -16,7 +16,8 @@ use Rattle.orders.proofs.clip_order.Statement.{statement}
 use Rattle.orders.proofs.clip_order.Tie as tie
 
 module _ (k : ℕ) (buf : List ℕ) where
-  no-order : 1092 < k → (r : Written) → r ≡ record { number = 23; item = 0; len = 0 } → Wrote (orderNumber k (length buf)) 0 (orderSheet k) buf r buf
+  no-order : 1092 < k → (r : Written) → r ≡ record { number = 23; item = 0; len = 0 }
+      → Wrote (orderNumber k (length buf)) 0 (orderSheet k) buf r buf
   unfolding orderNumber
   no-order h r e = rw (le-ltb k 1093 (omega arith)) (record { answers = e; writes = refl })
 

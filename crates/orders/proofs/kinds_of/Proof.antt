@@ -1,10 +1,10 @@
 -- `orders::kinds_of` meets its contract. Assumes nothing.
 use Prim.Native.Nat.{ℕ, _≤_}
 use mathlib.Core.List.{List, [], _++_, append-nil}
-use lib.Seq.{drop-length}
 use mathlib.Core.Path.{_≡_, refl, _∙_}
 use native.Mathlib.Omega.{arith}
 use lib.ListN.{length, drop, length-set}
+use lib.Seq.{drop-length}
 use Rattle.orders.specs.Kinds.{kindsIn}
 use Rattle.orders.proofs.Digits.{kinds-none, most, six-digits}
 use Rattle.orders.proofs.Turns.{digits-left, less-left, kinds-turn}
@@ -12,17 +12,19 @@ use Rattle.orders.proofs.kinds_of.Statement.{statement}
 use Rattle.orders.proofs.kinds_of.Tie as tie
 
 abbrev Inv-loop : tie.InvT-loop
-Inv-loop number kinds₀ from₀ rest₀ kinds from rest = (kindsIn from rest ++ drop from kinds ≡ kindsIn 6 number) × (length kinds ≡ length kinds₀) × (from ≤ 6) × (rest ≤ most from)
+Inv-loop number kinds₀ from₀ rest₀ kinds from rest =
+    (kindsIn from rest ++ drop from kinds ≡ kindsIn 6 number) × (length kinds ≡ length kinds₀) × (from ≤ 6) × (rest ≤ most from)
 
 abbrev μ-loop : tie.MeasureT-loop
 μ-loop number kinds₀ from₀ rest₀ kinds from rest = from
 
 -- nothing is set yet
-drop-6 : (kinds : List ℕ) → length kinds ≡ 6 → drop 6 kinds ≡ []
-drop-6 kinds e = rw (← e) (drop-length kinds)
+none-set : (kinds o : List ℕ) → length kinds ≡ 6 → o ++ drop 6 kinds ≡ o
+none-set kinds o e = let none : drop 6 kinds ≡ [] = rw (← e) (drop-length kinds) in rw none (append-nil o)
 
 loop-holds : tie.Need-loop-holds Inv-loop μ-loop
-loop-holds c = (rw (drop-6 (c .args .kinds .now) (c .pre .1), append-nil (kindsIn 6 (c .args .number))), refl, omega arith, six-digits (c .args .number) (c .pre .0))
+loop-holds c =
+    (none-set (c .args .kinds .now) (kindsIn 6 (c .args .number)) (c .pre .1), refl, omega arith, six-digits (c .args .number) (c .pre .0))
 
 sub-from : tie.Need-sub-from Inv-loop μ-loop
 sub-from c =

@@ -13,8 +13,10 @@ use Rattle.orders.proofs.put_items.Statement.{statement}
 use Rattle.orders.proofs.put_items.Tie as tie
 
 abbrev Inv-loop : tie.InvT-loop
-Inv-loop buf₀ kinds at₀ i₀ i-end buf at i = (placed at (joined (itemsFrom kinds i)) buf ≡ placed (12 + 4 * length kinds) (joined (map item kinds)) buf₀)
-    × (length buf ≡ length buf₀) × (i ≤ length kinds) × (at + length (joined (itemsFrom kinds i)) ≡ 12 + 4 * length kinds + length (joined (map item kinds)))
+Inv-loop buf₀ kinds at₀ i₀ i-end buf at i =
+    (placed at (joined (itemsFrom kinds i)) buf ≡ placed (12 + 4 * length kinds) (joined (map item kinds)) buf₀)
+    × (length buf ≡ length buf₀) × (i ≤ length kinds)
+    × (at + length (joined (itemsFrom kinds i)) ≡ 12 + 4 * length kinds + length (joined (map item kinds)))
     × (at ≤ 12 + 4 * length kinds + 52 * i)
 
 abbrev μ-loop : tie.MeasureT-loop

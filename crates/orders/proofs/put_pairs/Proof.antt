@@ -13,7 +13,8 @@ use Rattle.orders.proofs.put_pairs.Statement.{statement}
 use Rattle.orders.proofs.put_pairs.Tie as tie
 
 abbrev Inv-loop : tie.InvT-loop
-Inv-loop buf₀ kinds at₀ i₀ i-end buf at i = (placed (12 + 4 * i) (pairs at (itemsFrom kinds i)) buf ≡ placed 12 (pairs (12 + 4 * length kinds) (map item kinds)) buf₀)
+Inv-loop buf₀ kinds at₀ i₀ i-end buf at i =
+    (placed (12 + 4 * i) (pairs at (itemsFrom kinds i)) buf ≡ placed 12 (pairs (12 + 4 * length kinds) (map item kinds)) buf₀)
     × (length buf ≡ length buf₀) × (i ≤ length kinds) × (at ≤ 12 + 4 * length kinds + 52 * i)
 
 abbrev μ-loop : tie.MeasureT-loop

@@ -11,7 +11,8 @@ use Rattle.orders.proofs.sheet_len.Statement.{statement}
 use Rattle.orders.proofs.sheet_len.Tie as tie
 
 abbrev Inv-loop : tie.InvT-loop
-Inv-loop kinds len₀ i₀ i-end len i = (len + total (itemsFrom kinds i) ≡ 12 + 4 * length kinds + total (map item kinds)) × (i ≤ length kinds) × (len ≤ 12 + 4 * length kinds + 52 * i)
+Inv-loop kinds len₀ i₀ i-end len i =
+    (len + total (itemsFrom kinds i) ≡ 12 + 4 * length kinds + total (map item kinds)) × (i ≤ length kinds) × (len ≤ 12 + 4 * length kinds + 52 * i)
 
 abbrev μ-loop : tie.MeasureT-loop
 μ-loop kinds len₀ i₀ i-end len i = length kinds - i

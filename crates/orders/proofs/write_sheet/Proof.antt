@@ -26,7 +26,8 @@ returns-2 : tie.Need-returns-2
 returns-2 c =
     let a = c .before .before .before .before .before .before .before .before .args in
     let len = c .before .before .before .before .before .sheet-len .ensures in
-    fits 0 (asSheet (a .kinds .now)) (a .buf .now) (rw len at (c .before .before .before .before .if1 .left)) _ _ len (c .before .before .put-sheet .ensures)
+    let room = rw len at (c .before .before .before .before .if1 .left) in
+    fits 0 (asSheet (a .kinds .now)) (a .buf .now) room _ _ len (c .before .before .put-sheet .ensures)
 
 pub write-sheet-spec : {M : Type 1} → statement M
 write-sheet-spec = tie.close (tie.spec sheet-len-requires refused-requires returns put-sheet-requires same-length returns-2)
