@@ -1,7 +1,9 @@
-// Replays every small clip order as the unchanged Rust writes and paints it: how many cases ran, and how many differ.
+// Replays every small clip order beside a list that was made apart, with the pixels of the unchanged Rust: how many cases ran, and how many
+// differ.
 // The bytes hold words of 32 bits. The first is the number of sheets; each sheet then has its length in bytes, its 16 pixels and its bytes.
 mod run;
 
+use crate::run::ROOM;
 use crate::run::agrees;
 use crate::run::next;
 use cases::buffer;
@@ -9,18 +11,18 @@ use cases::report::one;
 use cases::report::print;
 use cases::word::word;
 
-// How many sheets are stored; 4,096 where the word says more.
+// How many sheets the list says that it has; 4,096 for any larger number, so that a damaged list comes to its end too.
 fn stored(bytes: &[u8]) -> u32 {
     let n = word(bytes, 0);
     if n < 4096 { n } else { 4096 }
 }
 
 // How many of the first n cases differ, of a kind that `agrees` lists.
-fn differing(bytes: &[u8], kind: u32, n: u32) -> u32 {
+fn differing(buf: &mut [u8], bytes: &[u8], kind: u32, n: u32) -> u32 {
     let mut differ: u32 = 0;
     let mut at: u32 = 1;
     for k in 0..n {
-        differ += one(!agrees(bytes, at, kind, k));
+        differ += one(!agrees(buf, bytes, at, kind, k));
         at = next(bytes, at);
     }
     differ
@@ -28,7 +30,8 @@ fn differing(bytes: &[u8], kind: u32, n: u32) -> u32 {
 
 // Prints the name and the count of a kind.
 fn line(bytes: &[u8], kind: u32, n: u32, name: &[u8]) {
-    print(name, n, differing(bytes, kind, n));
+    let mut buf = [0; ROOM];
+    print(name, n, differing(&mut buf, bytes, kind, n));
 }
 
 fn main() {

@@ -5,33 +5,14 @@ use orders::clip_order;
 use paint::paint;
 use redraw::Answer;
 ghost use Prim.Native.Nat.{_≤_};
-ghost use mathlib.Core.Path.{_≡_};
-ghost use lib.ListN.{length};
+
+// The bytes of a buffer: more than any sheet has.
+pub(crate) const ROOM: usize = 360;
 
 fn least(a: usize, b: usize) -> usize
     ensures { λ r. ⌜ r ≤ b ⌝ }
 {
     if a < b { a } else { b }
-}
-
-// A buffer of more bytes than any sheet has.
-fn space() -> [u8; 360]
-    ensures { λ r. ⌜ 360 ≡ length r ⌝ }
-{
-    [0; 360]
-}
-
-// The pixels before painting: of a colour that no sheet here paints.
-fn pixels() -> [u32; 16]
-    ensures { λ r. ⌜ 16 ≡ length r ⌝ }
-{
-    [0x1234_5678; 16]
-}
-
-fn no_scratch() -> [f32; 0]
-    ensures { λ r. ⌜ 0 ≡ length r ⌝ }
-{
-    [0.0; 0]
 }
 
 // The byte at place i of a buffer before the call.
@@ -68,12 +49,6 @@ fn leaves(buf: &mut [u8], lent: usize, k: usize, number: u32, sheet: &[u8]) -> b
     said & holds(buf, sheet)
 }
 
-// The same with a buffer of its own.
-fn writes(lent: usize, k: usize, number: u32, sheet: &[u8]) -> bool {
-    let mut buf = space();
-    leaves(&mut buf, lent, k, number, sheet)
-}
-
 // Whether painting was accepted, with the whole canvas as its box.
 fn whole(a: Answer) -> bool {
     let b = a.area;
@@ -81,41 +56,39 @@ fn whole(a: Answer) -> bool {
     (a.number == 0) & (a.item == 0) & from & (b.x1 == 4) & (b.y1 == 4)
 }
 
-// Whether a sheet paints the stored pixels.
-fn paints(sheet: &[u8], bytes: &[u8], at: u32, px: &mut [u32]) -> bool {
-    let mut scratch = no_scratch();
-    let a = paint(sheet, px, &mut scratch);
-    whole(a) & same_words(px, bytes, std::num::wrapping_add_u32(at, 1))
+// Whether a sheet paints the stored pixels, over a colour that no sheet here has, with no scratch.
+fn paints(sheet: &[u8], bytes: &[u8], at: u32) -> bool {
+    let mut px = [0x1234_5678; 16];
+    let mut scratch = [0.0; 0];
+    let a = paint(sheet, &mut px, &mut scratch);
+    whole(a) & same_words(&px, bytes, std::num::wrapping_add_u32(at, 1))
 }
 
 // Whether the sheet that the call writes has a length, and paints the stored pixels.
-fn written_paints(
-    buf: &mut [u8],
-    k: usize,
-    len: usize,
-    bytes: &[u8],
-    at: u32,
-    px: &mut [u32],
-) -> bool {
+fn painted(buf: &mut [u8], k: usize, len: usize, bytes: &[u8], at: u32) -> bool {
+    fill(buf);
     let w = clip_order(k, buf);
     let n = least(w.len, buf.len());
-    (w.len == len) & paints(&buf[..n], bytes, at, px)
+    (w.len == len) & paints(&buf[..n], bytes, at)
 }
 
-// The same with a buffer and pixels of its own.
-fn painted(k: usize, len: usize, bytes: &[u8], at: u32) -> bool {
-    let mut buf = space();
-    let mut px = pixels();
-    written_paints(&mut buf, k, len, bytes, at, &mut px)
+// Whether the call refuses with a number, and leaves the buffer as it was.
+fn refuses(buf: &mut [u8], lent: usize, k: usize, number: u32) -> bool {
+    leaves(buf, lent, k, number, b"")
 }
 
-// Whether a number is refused, both with bytes lent and with none.
-fn refused(k: usize) -> bool {
-    writes(360, k, 23, b"") & writes(0, k, 23, b"")
+// Whether a byte less than a length is refused. A byte less than none is the whole buffer, in which every sheet fits.
+fn short(buf: &mut [u8], len: usize, k: usize) -> bool {
+    refuses(buf, std::num::wrapping_sub_usize(len, 1), k, 19)
+}
+
+// Whether a number past the last is refused, both with the whole buffer lent and with none of it.
+fn refused(buf: &mut [u8], k: usize) -> bool {
+    refuses(buf, ROOM, k, 23) & refuses(buf, 0, k, 23)
 }
 
 // Four numbers past the last.
-fn past(k: u32) -> usize {
+fn past(k: usize) -> usize {
     match k {
         0 => 1093,
         1 => 1094,
@@ -140,16 +113,17 @@ pub(crate) fn next(bytes: &[u8], at: u32) -> u32 {
     std::num::wrapping_add_u32(at, 17 + word(bytes, at) / 4)
 }
 
-// Whether sheet k, whose words begin at a place, is as stored. The kinds: written into a whole buffer, into one of just its length, into one
-// a byte shorter, and painted. Any other kind is a number past the last. A sheet that is not there agrees with nothing: none is empty.
-pub(crate) fn agrees(bytes: &[u8], at: u32, kind: u32, k: u32) -> bool {
+// Whether sheet i, whose words begin at a place, is as stored. The kinds: written into a whole buffer, into one of just its length, into one of a
+// byte less, and painted; any other is the i-th number past the last. A sheet that is not there agrees with nothing, since no sheet is empty.
+pub(crate) fn agrees(buf: &mut [u8], bytes: &[u8], at: u32, kind: u32, i: u32) -> bool {
+    let k = i as usize;
     let sheet = sheet_at(bytes, at);
     let len = sheet.len();
     match kind {
-        1 => writes(360, k as usize, 0, sheet),
-        2 => writes(len, k as usize, 0, sheet),
-        3 => writes(std::num::wrapping_sub_usize(len, 1), k as usize, 19, b""),
-        4 => painted(k as usize, len, bytes, at),
-        _ => refused(past(k)),
+        1 => leaves(buf, ROOM, k, 0, sheet),
+        2 => leaves(buf, len, k, 0, sheet),
+        3 => short(buf, len, k),
+        4 => painted(buf, k, len, bytes, at),
+        _ => refused(buf, past(k)),
     }
 }

@@ -1,14 +1,16 @@
 -- `replay_orders::differing` is safe and ends: no more cases differ than have passed. Assumes nothing.
+use mathlib.Core.Path.{_≡_}
 use Prim.Native.Nat.{_-_, _≤_}
+use lib.ListN.{length}
 use native.Mathlib.Omega.{arith}
 use Rattle.replay_orders.proofs.differing.Statement.{statement}
 use Rattle.replay_orders.proofs.differing.Tie as tie
 
 abbrev Inv-loop : tie.InvT-loop
-Inv-loop bytes kind n differ₀ at₀ k₀ differ at k = (k ≤ n) × (differ ≤ k)
+Inv-loop buf₀ bytes kind n differ₀ at₀ k₀ buf differ at k = (k ≤ n) × (differ ≤ k) × (length buf ≡ length buf₀)
 
 abbrev μ-loop : tie.MeasureT-loop
-μ-loop bytes kind n differ₀ at₀ k₀ differ at k = n - k
+μ-loop buf₀ bytes kind n differ₀ at₀ k₀ buf differ at k = n - k
 
 loop-holds : tie.Need-loop-holds Inv-loop μ-loop
 loop-holds c = omega arith
@@ -34,6 +36,9 @@ loop-less c = omega arith
 loop-again : tie.Need-loop-again Inv-loop μ-loop
 loop-again c = omega arith
 
+same-length : tie.Need-same-length Inv-loop μ-loop
+same-length c = omega arith
+
 returns : tie.Need-returns Inv-loop μ-loop
 returns c = tt
 
@@ -51,4 +56,5 @@ differing-spec =
     add-k
     loop-less
     loop-again
+    same-length
     returns)

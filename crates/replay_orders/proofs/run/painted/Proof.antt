@@ -1,9 +1,12 @@
--- `replay_orders::run::written_paints` is safe: no more bytes are painted than there are. Assumes nothing.
+-- `replay_orders::run::painted` is safe: no more bytes are painted than there are. Assumes nothing.
 use mathlib.Core.Path.{sym}
 use native.Mathlib.Omega.{arith}
 use lib.Seq.{length-take-le}
-use Rattle.replay_orders.proofs.run.written_paints.Statement.{statement}
-use Rattle.replay_orders.proofs.run.written_paints.Tie as tie
+use Rattle.replay_orders.proofs.run.painted.Statement.{statement}
+use Rattle.replay_orders.proofs.run.painted.Tie as tie
+
+fill-requires : tie.Need-fill-requires
+fill-requires c κs = tt
 
 clip-order-requires : tie.Need-clip-order-requires
 clip-order-requires c κs = tt
@@ -23,21 +26,18 @@ paints-requires c κs = tt
 same-length : tie.Need-same-length
 same-length c = omega arith
 
-same-length-2 : tie.Need-same-length-2
-same-length-2 c = omega arith
-
 returns : tie.Need-returns
 returns c = tt
 
-pub written-paints-spec : {M : Type 1} → statement M
-written-paints-spec =
+pub painted-spec : {M : Type 1} → statement M
+painted-spec =
     tie.close
     (tie.spec
+    fill-requires
     clip-order-requires
     least-requires
     slice-reshare-prefix-paints
     slice-aggregate-paints
     paints-requires
     same-length
-    same-length-2
     returns)
