@@ -2,7 +2,7 @@
 use Prim.Native.Nat.{ℕ, _+_, _≤_, _<_}
 use mathlib.Core.List.{List, [], _++_, append-assoc, append-nil}
 use mathlib.Core.Path.{_≡_, sym, _∙_}
-use native.Mathlib.Nat.{add-zero, add-assoc}
+use native.Mathlib.Nat.{zero-add, add-zero, add-assoc}
 use native.Mathlib.Omega.{arith}
 use borrow.Author.Tests.{le-leb, lt-leb}
 use lib.ListN.{length, take, drop, length-append, length-drop, take-append-drop}
@@ -32,10 +32,7 @@ placed-none at buf h =
 
 -- from the start
 pub placed-first : (x buf : List ℕ) → length x ≤ length buf → placed 0 x buf ≡ x ++ drop (length x) buf
-placed-first x buf h = placed-fits 0 x buf (omega arith) ∙ rw (zero-add′ (length x))
-  where
-    zero-add′ : (n : ℕ) → 0 + n ≡ n
-    zero-add′ n = omega arith
+placed-first x buf h = placed-fits 0 x buf (omega arith) ∙ rw (zero-add (length x))
 
 -- one run, and then the next
 pub placed-more : (at : ℕ) (x y buf : List ℕ) → at + length x + length y ≤ length buf

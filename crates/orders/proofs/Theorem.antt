@@ -15,7 +15,7 @@ use Rattle.orders.specs.Kinds.{kindsIn}
 use Rattle.orders.specs.Every.{Order, none, more, Numbered, Before, Every}
 use Rattle.orders.proofs.Digits.{order-is, kinds-none, kinds-few, kinds-order, most, six-digits, read, read-kinds, kinds-read, read-most}
 use Rattle.orders.proofs.Rising.{rising}
-use Rattle.orders.proofs.Sound.{short, few-items, sheet-checked, sheet-painted}
+use Rattle.orders.proofs.Accepted.{short, few-items, sheet-checked, sheet-painted}
 
 counted : length (ordersTo 6) ≡ 1093
 unfolding ordersTo ordersOf
@@ -85,6 +85,9 @@ once j k p q e = sym (number-is j p) ∙ ap numberOf e ∙ number-is k q
 
 -- ---- the others
 
+only : (k : ℕ) → k < 1093 → Order (orderAt k) × (length (orderAt k) ≤ 6)
+only k h = rw (order-is k h) (kinds-order 6 k, kinds-few 6 k)
+
 ordered : (j k : ℕ) → j < k → k < 1093 → Before (orderAt j) (orderAt k)
 ordered j k h l = rw (order-is j (omega arith), order-is k l) (rising 6 j k h (six-digits k (omega arith)))
 
@@ -95,4 +98,4 @@ painted : (k words : ℕ) → k < 1093 → accepted (painting format (orderSheet
 painted k words h = rw (sheet-is k h) (sheet-painted (kindsIn 6 k) (kinds-few 6 k) words)
 
 pub every : Every
-every = record { count = counted; all = all; once = once; ordered = ordered; checked = checked; painted = painted }
+every = record { count = counted; only = only; all = all; once = once; ordered = ordered; checked = checked; painted = painted }

@@ -33,6 +33,8 @@ Before o p = (length o < length p) ⊎ ((length o ≡ length p) × Lesser o p)
 pub record Every : Type 0 where
   -- "There are 1,093"
   pub count : length (ordersTo 6) ≡ 1093
+  -- "all sheets of 0 to 6 items", and no other
+  pub only : (k : ℕ) → k < 1093 → Order (orderAt k) × (length (orderAt k) ≤ 6)
   -- "each appears exactly once": every order of up to 6 items has a number, and no two numbers have the same sheet
   pub all : (o : List ℕ) → Order o → length o ≤ 6 → Numbered o
   pub once : (j k : ℕ) → j < 1093 → k < 1093 → orderSheet j ≡ orderSheet k → j ≡ k

@@ -13,7 +13,8 @@ ghost use Rattle.encode.specs.Placed.{placed};
 ghost use Rattle.orders.specs.Orders.{item, head, asSheet, orderNumber, orderSheet};
 ghost use Rattle.orders.specs.Kinds.{kindsIn};
 
-// The kinds of the order of a number: the last of the lent six are set, and the place of the first is returned.
+// The kinds of the order of a number: the number is written with the digits 1, 2 and 3 to base 3, the last digit first, into the end of the
+// six places lent, and the place of its first digit is returned.
 fn kinds_of(number: usize, kinds: &mut [u8]) -> usize
     requires { ⌜ (number ≤ 1092) × (length (now kinds) ≡ 6) ⌝ }
     ensures { λ r. ⌜ (drop r (now (kinds .exit)) ≡ kindsIn 6 number) × (r ≤ 6) ⌝ }
@@ -134,7 +135,7 @@ fn write_sheet(buf: &mut [u8], kinds: &[u8]) -> Written
 pub fn clip_order(number: usize, buf: &mut [u8]) -> Written
     ensures { λ r. ⌜ Wrote (orderNumber number (length (now (buf .entry)))) 0 (orderSheet number) (now (buf .entry)) r (now (buf .exit)) ⌝ }
 {
-    if 1092 < number {
+    if 1093 <= number {
         return refused(23, 0);
     }
     let mut kinds = [0; 6];

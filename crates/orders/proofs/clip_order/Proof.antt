@@ -16,15 +16,15 @@ use Rattle.orders.proofs.clip_order.Statement.{statement}
 use Rattle.orders.proofs.clip_order.Tie as tie
 
 module _ (k : ℕ) (buf : List ℕ) where
-  no-order : 1092 < k → (r : Written) → r ≡ record { number = 23; item = 0; len = 0 }
+  no-order : 1093 ≤ k → (r : Written) → r ≡ record { number = 23; item = 0; len = 0 }
       → Wrote (orderNumber k (length buf)) 0 (orderSheet k) buf r buf
   unfolding orderNumber
-  no-order h r e = rw (le-ltb k 1093 (omega arith)) (record { answers = e; writes = refl })
+  no-order h r e = rw (le-ltb k 1093 h) (record { answers = e; writes = refl })
 
-  an-order : k ≤ 1092 → (o : List ℕ) → o ≡ kindsIn 6 k → (r : Written) (buf′ : List ℕ)
+  an-order : k < 1093 → (o : List ℕ) → o ≡ kindsIn 6 k → (r : Written) (buf′ : List ℕ)
       → Wrote (fitNumber (asSheet o) (length buf)) 0 (asSheet o) buf r buf′ → Wrote (orderNumber k (length buf)) 0 (orderSheet k) buf r buf′
   unfolding orderNumber orderSheet
-  an-order h o e r buf′ w = rw (lt-ltb k 1093 (omega arith), order-is k (omega arith), ← e) w
+  an-order h o e r buf′ w = rw (lt-ltb k 1093 h, order-is k h, ← e) w
 
 -- the part of the six kinds that is set
 set-part : (kinds : List ℕ) (from : ℕ) → length kinds ≡ 6 → take (6 - from) (drop from kinds) ≡ drop from kinds
