@@ -5,7 +5,7 @@ use mathlib.Core.List.{List, [], _∷_, _++_}
 use mathlib.Core.Path.{_≡_}
 use lib.Dec.{leb, eqb}
 use lib.ListN.{length, drop}
-use Rattle.gfx.specs.Calls.{unless}
+use Rattle.geom.specs.Refusals.{unless}
 use Rattle.encode.specs.declared.Written.{Written}
 
 -- ---- the sheet

@@ -3,3 +3,4 @@ pub mod Bools
 pub mod Int
 pub mod Boxes
 pub mod Signed
+pub mod Refusals

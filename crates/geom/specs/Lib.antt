@@ -2,4 +2,5 @@
 pub mod Int
 pub mod Box
 pub mod Plane
+pub mod Refusals
 pub mod Examples

@@ -3,26 +3,14 @@
 use mathlib.Core.Path.{_≡_, refl}
 use mathlib.Core.Bool.{Bool, true, false, cond}
 use mathlib.Core.List.{List}
-use Prim.Native.Nat.{ℕ, suc}
-use native.Mathlib.Omega.{arith}
+use Prim.Native.Nat.{ℕ}
 use lib.Dec.{eqb}
 use borrow.Author.Tests.{eq-eqb, ne-eqb}
-use Rattle.gfx.specs.Calls.{unless, answer, left, Called, pixelAnswer}
+use Rattle.gfx.specs.Calls.{answer, left, Called, pixelAnswer}
 use Rattle.gfx.specs.declared.Canvas.{Canvas}
 use Rattle.gfx.specs.declared.Done.{Done}
 use Rattle.color.specs.declared.Pixel.{Pixel}
-
--- a number other than 0 is not 0
-refused : {A : Type 0} {n : ℕ} → suc n ≡ 0 → A
-refused e = absurd (never e)
-  where
-    never : {n : ℕ} → suc n ≡ 0 → ⊥
-    never e = omega arith
-
--- a test before a number that is 0 held, and so does what follows
-pub passed : (t : Bool) (n rest : ℕ) → unless t (suc n) rest ≡ 0 → (t ≡ true) × (rest ≡ 0)
-passed true n rest e = (refl, e)
-passed false n rest e = refused e
+pub use Rattle.geom.proofs.Refusals.{passed}
 
 -- a number and what goes with it
 done-is : {m n : ℕ} {a b : Canvas} → m ≡ n → a ≡ b → _≡_ {A = Done} (record { number = m; canvas = a }) (record { number = n; canvas = b })

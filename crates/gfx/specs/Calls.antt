@@ -10,6 +10,7 @@ use lib.ListN.{length, getD, replicate}
 use Rattle.geom.specs.Int.{up, maxZ, eqZ}
 use Rattle.geom.specs.Box.{noBox}
 use Rattle.geom.specs.Plane.{rectOk}
+pub use Rattle.geom.specs.Refusals.{unless}
 use Rattle.geom.specs.declared.IRect.{IRect}
 use Rattle.geom.specs.declared.Rect.{Rect}
 use Rattle.color.specs.declared.Pixel.{Pixel}
@@ -19,10 +20,6 @@ use Rattle.gfx.specs.declared.Done.{Done}
 use Rattle.gfx.specs.declared.Boxed.{Boxed}
 
 -- ---- answers
-
--- n is given where the test fails, and what follows decides where it holds
-abbrev pub unless : Bool → ℕ → ℕ → ℕ
-unless ok n rest = cond ok rest n
 
 -- the number n and the state: the next one where the call is accepted, the given one where it is refused
 unfoldable pub answer : ℕ → Canvas → Canvas → Done

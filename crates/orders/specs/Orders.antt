@@ -4,7 +4,7 @@ use Prim.Native.Nat.{ℕ, zero, suc}
 use mathlib.Core.List.{List, [], _∷_, _++_, map}
 use lib.Dec.{ltb}
 use lib.ListN.{getD, replicate}
-use Rattle.gfx.specs.Calls.{unless}
+use Rattle.geom.specs.Refusals.{unless}
 use Rattle.sheet.specs.Bytes.{lookup}
 use Rattle.encode.specs.Encode.{encoded, fitNumber}
 

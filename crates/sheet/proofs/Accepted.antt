@@ -11,7 +11,7 @@ use lib.ListN.{length}
 use lib.Dec.{ltb, leb, eqb, eqb·suc-zero}
 use borrow.Author.Tests.{leb-true, ltb-true, eqb-true, eq-eqb}
 use Rattle.geom.proofs.Bools.{and-left, and-right}
-use Rattle.gfx.proofs.Answers.{passed}
+use Rattle.geom.proofs.Refusals.{passed}
 use Rattle.sheet.specs.Bytes.{zeros}
 use Rattle.sheet.specs.Kinds.{kindAt, pointsAt, layoutAt, lengthOk, pointsOk, bytesOk, floatsOk, savedOk, itemNumber}
 use Rattle.sheet.specs.Check.{widthOf, heightOf, countOf, offsetOf, lengthOf, sizeOk, sideOk, headerOk, pairsFrom, pairsOk, headNumber, numberAt, depthAt, verdict, itemsFrom, sheetCheck}

@@ -10,7 +10,7 @@ use lib.Dec.{eqb}
 use lib.ListN.{take, drop}
 use lib.Seq.{getD-take, getD-drop}
 use borrow.Author.Tests.{eqb-false, ne-eqb}
-use Rattle.gfx.proofs.Answers.{passed}
+use Rattle.geom.proofs.Refusals.{passed}
 use Rattle.geom.proofs.Bools.{split}
 use Rattle.sheet.specs.Bytes.{byteAt, zeroAt, floatOkAt, allAt, zeros, floats}
 use Rattle.sheet.specs.Kinds.{kindAt, pointsAt, layoutOf, layoutAt, paintLayout, lengthOk, pointsOk, paintBytesOk, bytesOk, paintFloatsOk, floatsOk, savedOk, itemNumber}

@@ -4,7 +4,7 @@ use mathlib.Core.List.{List}
 use mathlib.Core.Bool.{Bool, _&&_, cond}
 use lib.ListN.{length, take, drop}
 use lib.Dec.{leb, eqb}
-use Rattle.gfx.specs.Calls.{unless}
+use Rattle.geom.specs.Refusals.{unless}
 use Rattle.sheet.specs.Bytes.{u16At, zeros}
 use Rattle.sheet.specs.Kinds.{kindAt, itemNumber, depthAfter}
 use Rattle.sheet.specs.declared.check.Verdict.{Verdict}

@@ -4,7 +4,7 @@ use Prim.Native.Nat.{ℕ, _+_, _-_, _*_}
 use mathlib.Core.List.{List, [], _∷_}
 use mathlib.Core.Bool.{Bool, not, _&&_, _||_}
 use lib.Dec.{ltb, leb, eqb}
-use Rattle.gfx.specs.Calls.{unless}
+use Rattle.geom.specs.Refusals.{unless}
 use Rattle.sheet.specs.Bytes.{byteAt, u16At, zeros, floats, lookup}
 use Rattle.sheet.specs.declared.kinds.Layout.{Layout}
 
