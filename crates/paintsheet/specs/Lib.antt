@@ -1,2 +1,0 @@
--- The definitions that the contracts of `paintsheet` cite. Assumes nothing.
-pub mod Digits

@@ -1,0 +1,77 @@
+-- What painting leaves, as text: by its number the picture of px, or the refusal. Assumes nothing.
+use Prim.Native.Nat.{ℕ, _<_}
+use mathlib.Core.Path.{_≡_, sym, ap, _∙_}
+use mathlib.Core.Bool.{Bool, true, false, cond, false≢true}
+use mathlib.Core.List.{List}
+use borrow.Author.Tests.{leb-true, eqb-true}
+use lib.Dec.{leb, eqb}
+use lib.Ieee.{Float}
+use lib.ListN.{length}
+use Rattle.geom.proofs.Bools.{and-left, split}
+use Rattle.sheet.specs.Check.{widthOf, sheetCheck, verdict}
+use Rattle.sheet.proofs.Accepted as sheets
+use Rattle.redraw.specs.declared.Answer.{Answer}
+use Rattle.redraw.specs.Sheet.{Sheet, Reading, read, refused, Outcome, refuses, draws, painting, answer, refusal, accepted, fresh}
+use Rattle.redraw.specs.Calls.{Painted}
+use Rattle.redraw.proofs.Lists.{Paints, paint-accepted, paint-numbered, zero-accepted, shown-first}
+use Rattle.items.specs.Format.{kind, reading, sheetOf, format, zeroWord}
+use Rattle.items.proofs.Lawful.{lawful}
+use Rattle.paint.proofs.Painting.{clean}
+use Rattle.text.specs.Picture.{pictureOf}
+use Rattle.text.specs.Text.{refusalText, outcomeText}
+
+isRead : Reading (List ℕ) → Bool
+isRead (refused n k) = false
+isRead (read t) = true
+
+not-read : {n k : ℕ} {t : Sheet (List ℕ)} → refused n k ≡ read t → ⊥
+unfolding isRead
+not-read e = false≢true (ap isRead e)
+
+-- bytes that are read passed every check, and are read as their sheet
+read-is : (s : List ℕ) (t : Sheet (List ℕ)) → reading s ≡ read t → (sheetCheck s ≡ verdict 0 0) × (t ≡ sheetOf s)
+unfolding reading
+read-is s t e =
+    split (eqb (sheetCheck s .number) 0)
+    (λ b. cond b (read (sheetOf s)) (refused (sheetCheck s .number) (sheetCheck s .item)) ≡ read t → (sheetCheck s ≡ verdict 0 0) × (t ≡ sheetOf s))
+    (λ z r. (clean s (eqb-true _ 0 z), cc))
+    (λ z r. absurd (not-read r))
+    e
+
+refused-text : (o : Outcome (List ℕ)) (a : Answer) → a ≡ answer o → (a .number ≡ 0 → ⊥) → outcomeText o ≡ refusalText (a .number) (a .item)
+unfolding outcomeText answer refusal
+refused-text (refuses n k) a e h = rw e
+refused-text (draws s box) a e h = absurd (h (ap (λ (r : Answer). r .number) e))
+
+drawn-text : (o : Outcome (List ℕ)) (s : Sheet (List ℕ)) {box : _} → o ≡ draws s box → outcomeText o ≡ pictureOf (s .w) (fresh kind s)
+unfolding outcomeText
+drawn-text o s e = rw e
+
+module _ (s px : List ℕ) (scratch : List Float) (a : Answer) (px′ : List ℕ) (scratch′ : List Float)
+    (did : Painted zeroWord format s px scratch a px′ scratch′) where
+  abbrev outcome : Outcome (List ℕ)
+  outcome = painting format s (length px) (length scratch)
+
+  pub refusal-shown : (a .number ≡ 0 → ⊥) → outcomeText outcome ≡ refusalText (a .number) (a .item)
+  refusal-shown h = refused-text outcome a (did .answers) h
+
+  module _ (zero : a .number ≡ 0) where
+    yes : accepted outcome ≡ true
+    yes = zero-accepted outcome (paint-numbered format lawful s (length px) (length scratch)) (sym (ap (λ (r : Answer). r .number) (did .answers)) ∙ zero)
+
+    drew : Paints format s (length px) (length scratch)
+    drew = paint-accepted format s (length px) (length scratch) yes
+
+    held-is : drew .held ≡ sheetOf s
+    held-is = read-is s (drew .held) (drew .reads) .1
+
+    fresh-is : px′ ≡ fresh kind (sheetOf s)
+    fresh-is =
+        let shown = shown-first zeroWord format lawful s px scratch a px′ scratch′ did yes in
+        shown .fresh-px ∙ ap (λ (t : Sheet (List ℕ)). fresh kind t) (read-is s (shown .held) (shown .reads) .1)
+
+    pub picture-shown : outcomeText outcome ≡ pictureOf (widthOf s) px′
+    picture-shown = drawn-text outcome (drew .held) (drew .is) ∙ rw (held-is, fresh-is)
+
+    pub some-width : 0 < widthOf s
+    some-width = leb-true 1 (widthOf s) (and-left (leb 1 (widthOf s)) (leb (widthOf s) 2048) (sheets.accepted s (read-is s (drew .held) (drew .reads) .0) .width))

@@ -1,0 +1,3 @@
+-- The definitions that the contracts of `text` cite. Assumes nothing.
+pub mod Picture
+pub mod Text
