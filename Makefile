@@ -1,14 +1,17 @@
 # make test: the gate, then a short comparison with the unchanged Rust, then the bindings. make ticket: a ticket painted and patched
-# through a settling weight, as pictures.
+# through a settling weight, as pictures. make edits: the edits that must fail and that the gate leaves out.
 # make compare: the comparison at scale, in minutes. make shapes, make sheets, make patches, make orders: of the shapes, of painting
 # sheets, of lists of patches, of every small clip order alone. make bench: speed beside the Rust.
-.PHONY: test ticket compare shapes sheets patches orders bench
+.PHONY: test ticket edits compare shapes sheets patches orders bench
 
 test:
 	@bash tools/test
 
 ticket:
 	@bash tools/ticket
+
+edits:
+	@bash tools/edits
 
 compare:
 	@bash oracle/compare
