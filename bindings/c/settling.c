@@ -1,0 +1,79 @@
+/* Paints the first sheet and patches the pixels through the others: settling OUT SHEET SHEET ..
+ *
+ * After every patch the pixels must be those of a fresh painting. Writes start.ppm and ticket.ppm, the last, into the folder OUT.
+ *
+ *   cc -std=c11 -Wall -Wextra -Werror -I bindings/c bindings/c/settling.c -L target/staticlib -lmaldjupp -o settling */
+#include "maldjupp.h"
+
+#include <stdio.h>
+#include <string.h>
+
+enum { BYTES = 60000, PIXELS = 640 * 400, WORDS = 70000 };
+
+static uint8_t old[BYTES], new[BYTES];
+static uint32_t px[PIXELS], fresh[PIXELS];
+static float scratch[WORDS];
+
+/* The bytes of a file; 0 where there is none, or where it is longer than a sheet can be. */
+static size_t bytes_of(const char *name, uint8_t sheet[BYTES]) {
+    FILE *file = fopen(name, "rb");
+    if (!file) return 0;
+    size_t n = fread(sheet, 1, BYTES, file);
+    if (fgetc(file) != EOF) n = 0;
+    fclose(file);
+    return n;
+}
+
+static size_t width(const uint8_t *sheet) { return sheet[0] | sheet[1] << 8; }
+
+static size_t height(const uint8_t *sheet) { return sheet[2] | sheet[3] << 8; }
+
+/* Writes the pixels of a sheet as a PPM; whether it could. */
+static bool write_ppm(const char *folder, const char *name, const uint8_t *sheet) {
+    char path[4096];
+    int fits = snprintf(path, sizeof path, "%s/%s", folder, name);
+    FILE *file = 0 < fits && (size_t)fits < sizeof path ? fopen(path, "wb") : NULL;
+    if (!file) return false;
+    fprintf(file, "P6\n%zu %zu\n255\n", width(sheet), height(sheet));
+    for (size_t i = 0; i < width(sheet) * height(sheet); i++) {
+        uint8_t rgb[3] = {(uint8_t)(px[i] >> 16), (uint8_t)(px[i] >> 8), (uint8_t)px[i]};
+        fwrite(rgb, 1, 3, file);
+    }
+    bool written = !ferror(file);
+    return fclose(file) == 0 && written;
+}
+
+static int refused(const char *name, struct maldjupp_reply r) {
+    fprintf(stderr, "%s: refused %u at %u\n", name, r.number, r.item);
+    return 1;
+}
+
+/* Patches from the old sheet to the file's, and holds the pixels to a fresh painting; 0 where all is as it should be. */
+static int patch(const char *name, size_t *n) {
+    size_t m = bytes_of(name, new), pixels = width(old) * height(old);
+    struct maldjupp_reply r = maldjupp_patch(old, *n, new, m, px, pixels, scratch, WORDS);
+    if (r.number != MALDJUPP_ACCEPTED) return refused(name, r);
+    maldjupp_paint(new, m, fresh, pixels, scratch, WORDS);
+    if (memcmp(px, fresh, 4 * pixels) != 0) {
+        fprintf(stderr, "%s: the pixels are not those of a fresh painting\n", name);
+        return 1;
+    }
+    const char *file = strrchr(name, '/');
+    printf("patched %-16s box %3d x %3d at %3d,%3d\n", file ? file + 1 : name, r.x1 - r.x0, r.y1 - r.y0, r.x0, r.y0);
+    memcpy(old, new, *n = m);
+    return 0;
+}
+
+int main(int count, char **words) {
+    if (count < 3) return fprintf(stderr, "usage: settling OUT SHEET SHEET ..\n"), 2;
+    size_t n = bytes_of(words[2], old), pixels = width(old) * height(old);
+    struct maldjupp_reply r = maldjupp_paint(old, n, px, pixels < PIXELS ? pixels : PIXELS, scratch, WORDS);
+    if (r.number != MALDJUPP_ACCEPTED) return refused(words[2], r);
+    printf("painted %zu x %zu\n", width(old), height(old));
+    if (!write_ppm(words[1], "start.ppm", old)) return fprintf(stderr, "start.ppm cannot be written\n"), 1;
+    for (int i = 3; i < count; i++)
+        if (patch(words[i], &n) != 0) return 1;
+    if (!write_ppm(words[1], "ticket.ppm", old)) return fprintf(stderr, "ticket.ppm cannot be written\n"), 1;
+    printf("%d patches: after each, the pixels are those of a fresh painting\n", count - 3);
+    return 0;
+}
