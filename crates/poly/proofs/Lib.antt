@@ -1,6 +1,5 @@
 -- Laws that more than one proof cites.
 pub mod Words
-pub mod Columns
 pub mod Turns
 pub mod Signs
 pub mod Boxed

@@ -14,8 +14,9 @@ use Rattle.geom.proofs.Bools.{and-left, split}
 use Rattle.geom.proofs.Boxes.{meet-empty}
 use Rattle.draw.specs.Areas.{area, clipTo, drawnIn}
 use Rattle.draw.proofs.Rows.{none-across}
+use Rattle.accum.specs.Rooms.{Room}
 use Rattle.poly.specs.Poly.{pointCount, polyBox, painted, reachOf, polyReach, needOf, polyNeed, cleared}
-use Rattle.poly.specs.Rooms.{Room, Near, noPlan, planned, planOf}
+use Rattle.poly.specs.Rooms.{Near, noPlan, planned, planOf}
 use Rattle.poly.specs.declared.bounds.PolyBox.{PolyBox}
 
 -- the sizes of a box are no trouble

@@ -1,14 +1,12 @@
--- Lists of f32 words under stores: one more word cleared, and one more word added to. Assumes nothing.
+-- Lists of f32 words under stores: one more word cleared. Assumes nothing.
 use mathlib.Core.Path.{_≡_, refl, ap, _∙_}
 use mathlib.Core.List.{List, [], _∷_, _++_, append-nil}
-use Prim.Native.Nat.{ℕ, zero, suc, _+_, _-_, _<_, _≤_}
+use Prim.Native.Nat.{ℕ, zero, suc, _+_, _<_}
 use native.Mathlib.Nat.{not-suc-le-zero, le-of-suc-le-suc}
 use native.Mathlib.Numerals.{add-one}
-use native.Mathlib.Omega.{arith}
 use lib.ListN.{length, set, drop, replicate}
 use lib.Seq.{drop-length}
 use lib.Ieee.{Float}
-use Rattle.poly.specs.Accum.{bumpAt, bumpRun}
 
 fill-suc : (n : ℕ) (v : Float) (d : List Float) → n < length d → set (replicate n v ++ drop n d) n v ≡ replicate (suc n) v ++ drop (suc n) d
 fill-suc n v [] l = absurd (not-suc-le-zero l)
@@ -21,10 +19,3 @@ fill-more n v d l = rw add-one (fill-suc n v d l)
 -- all of a list
 pub fill-all : (v : Float) (d : List Float) → replicate (length d) v ++ drop (length d) d ≡ replicate (length d) v
 fill-all v d = ap (λ (t : List Float). replicate (length d) v ++ t) (drop-length d) ∙ append-nil (replicate (length d) v)
-
-pub bumpRun-more : (a : List Float) (i k : ℕ) (v : Float) → i ≤ k → bumpRun a i (k + 1 - i) v ≡ bumpAt (bumpRun a i (k - i) v) k v
-unfolding bumpRun
-bumpRun-more a i k v l =
-    let e : k + 1 - i ≡ suc (k - i) = omega arith in
-    let p : i + (k - i) ≡ k = omega arith in
-    rw e (rw p)

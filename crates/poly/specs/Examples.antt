@@ -7,8 +7,8 @@ use lib.Ieee.{Float, ofBits, ofInt, round, add, sub, mul, div, lt, eq, ne, neg, 
 use Rattle.mathf.specs.F32.{f0, f½, f1, f1½}
 use Rattle.mathf.specs.Whole.{floorOf, ceilOf}
 use Rattle.geom.specs.Box.{boxOf}
-use Rattle.poly.specs.Accum.{bumpRun, shortRow, midRow, innerRow, wideRow, rowAccum}
-use Rattle.poly.specs.Lines.{rowBetween, rowHeight, rowNext, edgeX, edgeRow, edgeRows, startX, edgeDown, edgeOf, firstRow, endRow, lineAccum}
+use Rattle.accum.specs.Accum.{bumpRun, shortRow, midRow, innerRow, wideRow, rowAccum}
+use Rattle.accum.specs.Lines.{rowBetween, rowHeight, rowNext, edgeX, edgeRow, edgeRows, startX, edgeDown, edgeOf, firstRow, endRow, lineAccum}
 use Rattle.poly.specs.Poly.{extentOf, originOf, spanOf, polyBox, painted, polyReach, polyNeed, pointFrom, edgesAccum, accumulated, runSum, areaAt, coverOf}
 
 -- the square from (0.5, 0) to (1.5, 1)

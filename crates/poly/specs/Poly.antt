@@ -25,7 +25,7 @@ use Rattle.paints.specs.Paints.{paintAt, paintOk, centreOf}
 use Rattle.gfx.specs.declared.Canvas.{Canvas}
 use Rattle.gfx.specs.declared.Done.{Done}
 use Rattle.paints.specs.declared.Paint.{Paint}
-use Rattle.poly.specs.Lines.{lineAccum}
+use Rattle.accum.specs.Lines.{lineAccum}
 use Rattle.poly.specs.declared.bounds.Extent.{Extent}
 use Rattle.poly.specs.declared.bounds.PolyBox.{PolyBox}
 

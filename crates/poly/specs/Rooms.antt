@@ -1,9 +1,8 @@
--- What the private contracts ask: that the accumulator has room for the box, that the box is near, and that a part of the canvas lies in
--- it; and the box with its need. Assumes nothing.
+-- What the private contracts ask: that the box is near, and that a part of the canvas lies in it; and the box with its need. Assumes nothing.
 use mathlib.Core.Bool.{true, cond}
 use mathlib.Core.List.{List}
 use mathlib.Core.Path.{_≡_}
-use Prim.Native.Nat.{ℕ, _+_, _-_, _*_, _≤_}
+use Prim.Native.Nat.{ℕ, _+_, _-_, _≤_}
 use lib.IntN.{ℤ, pos, natAbs}
 use lib.Signed.{leZ}
 use lib.ListN.{length}
@@ -15,12 +14,6 @@ use Rattle.paints.specs.declared.Paint.{Paint}
 use Rattle.poly.specs.Poly.{pointCount, polyBox, painted, needOf, offsetOf, runSum, coverOf}
 use Rattle.poly.specs.declared.bounds.PolyBox.{PolyBox}
 use Rattle.poly.specs.declared.bounds.Plan.{Plan}
-
--- the rows of a box of bw by bh lie within n words. No box is wider or higher, since no coordinate is past 8,192
-pub record Room (bw bh n : ℕ) : Type 0 where
-  pub wide : bw ≤ 16386
-  pub high : bh ≤ 16386
-  pub words : (bw + 2) * bh ≤ n
 
 -- points that a box can be drawn around
 pub record Ranged (pts : List Float) : Type 0 where

@@ -1,7 +1,5 @@
 // Polygons: signed areas, edge by edge, in a lent accumulator, and from it the pixels.
-mod accum;
 mod bounds;
-mod edge;
 mod fill;
 mod outline;
 mod rows;

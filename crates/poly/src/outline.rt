@@ -1,16 +1,17 @@
 // The edges of a polygon in the accumulator.
 use crate::bounds::PolyBox;
 use crate::bounds::point_at;
-use crate::edge::accum_line;
+use accum::accum_line;
 use geom::Pt;
 ghost use mathlib.Core.Path.{_≡_};
 ghost use mathlib.Core.List.{List};
 ghost use Prim.Native.Nat.{_+_, _*_, _%_, _≤_, _<_};
 ghost use lib.ListN.{length, replicate};
 ghost use Rattle.mathf.specs.F32.{f0};
-ghost use Rattle.poly.specs.Lines.{lineAccum};
+ghost use Rattle.accum.specs.Lines.{lineAccum};
+ghost use Rattle.accum.specs.Rooms.{Room};
 ghost use Rattle.poly.specs.Poly.{pointCount, pointFrom, needOf, edgesAccum, accumulated};
-ghost use Rattle.poly.specs.Rooms.{Room, Near};
+ghost use Rattle.poly.specs.Rooms.{Near};
 
 // Sets every word to +0.
 pub(crate) fn clear(acc: &mut [f32])

@@ -18,8 +18,9 @@ ghost use lib.ListN.{length};
 ghost use Rattle.color.specs.Inks.{overC};
 ghost use Rattle.paints.specs.Paints.{paintAt, centreOf};
 ghost use Rattle.draw.specs.Areas.{drawnIn, area, clipTo, RowFits, AreaFits};
+ghost use Rattle.accum.specs.Rooms.{Room};
 ghost use Rattle.poly.specs.Poly.{runSum, offsetOf, coverOf, inkIn, reachOf};
-ghost use Rattle.poly.specs.Rooms.{Room, Near, Over, inkFrom};
+ghost use Rattle.poly.specs.Rooms.{Near, Over, inkFrom};
 ghost use Rattle.paints.specs.declared.Paint.the-variants.{Solid, Linear};
 
 // A signed area as a coverage, 0 to 255. Most of a box lies outside the polygon: there nothing is converted.

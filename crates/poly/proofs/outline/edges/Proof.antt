@@ -5,7 +5,7 @@ use native.Mathlib.Nat.{le-antisymm}
 use native.Mathlib.Omega.{arith}
 use lib.ListN.{length}
 use Rattle.poly.specs.Poly.{edgesAccum}
-use Rattle.poly.specs.Rooms.{Room}
+use Rattle.accum.specs.Rooms.{Room}
 use Rattle.poly.proofs.Turns.{edges-more}
 use Rattle.poly.proofs.outline.edges.Statement.{statement}
 use Rattle.poly.proofs.outline.edges.Tie as tie

@@ -8,7 +8,7 @@ use Rattle.poly.specs.Poly.{offsetOf, inkIn}
 use Rattle.poly.specs.Rooms.{inkFrom}
 use Rattle.poly.proofs.Signs.{back}
 use Rattle.poly.proofs.Spans.{ink-in}
-use Rattle.poly.proofs.Turns.{row-words}
+use Rattle.accum.proofs.Turns.{row-words}
 use borrow.Author.Needs.{needs}
 use Rattle.poly.proofs.rows.poly_row.Statement.{statement}
 use Rattle.poly.proofs.rows.poly_row.Tie as tie
