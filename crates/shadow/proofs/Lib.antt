@@ -1,5 +1,4 @@
 -- The laws of a shadow that belong to no one function.
-pub mod Fractions
 pub mod Levels
 pub mod Parts
 pub mod Fading

@@ -1,4 +1,3 @@
--- Falloff is the rule of the table on file and the level of a fraction, Shadow what the contract of `shadow_rrect` cites, Spans what its loops do.
-pub mod Falloff
+-- Shadow is what the contract of `shadow_rrect` cites, Spans what its loops do.
 pub mod Shadow
 pub mod Spans

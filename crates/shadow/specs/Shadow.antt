@@ -1,7 +1,6 @@
 -- The soft shadow of a rounded rectangle: `shadow_rrect` of gfx.rs, for one pixel. Each f32 operation is rounded once, in the order written.
 use mathlib.Core.Bool.{Bool, cond, _&&_, _||_}
-use mathlib.Core.List.{List, [], _∷_, _++_}
-use Prim.Native.Nat.{ℕ, zero, suc}
+use Prim.Native.Nat.{ℕ}
 use lib.Dec.{leb, eqb}
 use lib.IntN.{ℤ}
 use lib.Ieee.{Float, neg}
@@ -19,7 +18,7 @@ use Rattle.color.specs.Inks.{over}
 use Rattle.draw.specs.Draw.{inColumns}
 use Rattle.paints.specs.declared.Rounded.{Rounded}
 use Rattle.paints.specs.Paints.{centreOf, roundedOf}
-use Rattle.shadow.specs.Falloff.{fractionOf, levelBy}
+unfoldable pub use Rattle.falloff.specs.Falloff.{levelOf, table}
 
 -- the floats given are finite and within 8,192 of 0
 abbrev pub shadowOk : Rect → Float → Float → Bool
@@ -30,15 +29,6 @@ unfoldable pub shadowReach : Rect → Float → Color → IRect
 shadowReach rect blur c = cond (eqb (c .a) 0 || (blur ≤ᶠ f0)) noBox (outerOf (insetOf rect (neg blur)))
 
 -- ---- the falloff, of a colour's alpha a
-
--- level i of 0 to 96
-unfoldable pub levelOf : ℕ → ℕ → ℕ
-levelOf a i = levelBy (fractionOf i) a
-
--- f 0, f 1, .. up to n
-unfoldable pub table : (ℕ → ℕ) → ℕ → List ℕ
-table f zero = []
-table f (suc n) = table f n ++ (f n ∷ [])
 
 -- how many levels out a signed distance lies: below 0 inside, 96 and more outside
 unfoldable pub stepsOut : Float → Float → Float

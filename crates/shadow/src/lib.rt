@@ -1,13 +1,11 @@
 // The soft shadow of a rounded rectangle.
-mod falloff;
-
-use crate::falloff::falloff;
 use color::Color;
 use color::over;
 use color::over_wide;
 use draw::Area;
 use draw::between;
 use draw::clipped;
+use falloff::falloff;
 use geom::IRect;
 use geom::Rect;
 use geom::floats_ok;

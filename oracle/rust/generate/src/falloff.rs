@@ -1,4 +1,4 @@
-//! The fractions of a shadow's falloff that stand on file in the crate `shadow`, held to those that the Rust's own line gives.
+//! The fractions of a shadow's falloff that stand on file in the crate `falloff`, held to those that the Rust's own line gives.
 use std::{fs, path::Path};
 
 /// The patterns of the table in a source file of Rattle.

@@ -55,7 +55,7 @@ fn main() {
         fs::create_dir_all(&other).unwrap();
         other
     };
-    falloff::hold(&given(1).join("shadow/src/falloff.rt"));
+    falloff::hold(&given(1).join("falloff/src/lib.rt"));
     mathf::stored().write(&folder("replay_mathf"));
     color::stored().write(&folder("replay_color"));
     geom::stored().write(&folder("replay_geom"));

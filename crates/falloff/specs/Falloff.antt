@@ -1,8 +1,8 @@
--- The falloff of a shadow: its 97 fractions by the formula of gfx.rs, their table on file, and the level of a fraction. Each f32 operation is
--- rounded once, in the order written.
+-- The falloff of a shadow: its 97 fractions by the formula of gfx.rs, their table on file, the level of a fraction, and the table of
+-- levels. Each f32 operation is rounded once, in the order written.
 use mathlib.Core.Path.{_≡_}
-use mathlib.Core.List.{List}
-use Prim.Native.Nat.{ℕ, _*_, _^_, _<_}
+use mathlib.Core.List.{List, [], _∷_, _++_}
+use Prim.Native.Nat.{ℕ, zero, suc, _*_, _^_, _<_}
 use lib.Ieee.{Float, binary32, toBits}
 use lib.ListN.{length, getD}
 use Rattle.mathf.specs.F32.{_+ᶠ_, _-ᶠ_, _*ᶠ_, _/ᶠ_, ofℕᶠ, f½, f1, f96}
@@ -25,3 +25,14 @@ pub record OnFile (patterns : List ℕ) : Type 0 where
 -- the level of a fraction for a colour's alpha a
 abbrev pub levelBy : Float → ℕ → ℕ
 levelBy f a = toU32 (f *ᶠ ofℕᶠ a +ᶠ f½)
+
+-- ---- the levels, of a colour's alpha a
+
+-- level i of 0 to 96
+unfoldable pub levelOf : ℕ → ℕ → ℕ
+levelOf a i = levelBy (fractionOf i) a
+
+-- f 0, f 1, .. up to n
+unfoldable pub table : (ℕ → ℕ) → ℕ → List ℕ
+table f zero = []
+table f (suc n) = table f n ++ (f n ∷ [])

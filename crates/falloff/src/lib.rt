@@ -2,8 +2,7 @@
 ghost use mathlib.Core.Path.{_≡_};
 ghost use Prim.Native.Nat.{_*_, _^_, _<_};
 ghost use lib.Ieee.{binary32, ofBits};
-ghost use Rattle.shadow.specs.Falloff.{levelBy, OnFile};
-ghost use Rattle.shadow.specs.Shadow.{levelOf, table};
+ghost use Rattle.falloff.specs.Falloff.{levelBy, OnFile, levelOf, table};
 
 // The fractions of the falloff as bit patterns of f32: entry i is 1 - t * t * (3 - 2 * t) at t = i / 96.
 const FRACTIONS: [u32; 97] = [
@@ -122,7 +121,7 @@ fn level(bits: u32, a: u8) -> u32
 }
 
 // The 97 levels, filled once a call.
-pub(crate) fn falloff(a: u8) -> [u32; 97]
+pub fn falloff(a: u8) -> [u32; 97]
     ensures { λ r. ⌜ r ≡ table (levelOf a) 97 ⌝ }
 {
     let fractions = on_file();

@@ -1,8 +1,8 @@
--- `shadow::falloff::level` meets its contract. Assumes nothing.
+-- `falloff::level` meets its contract. Assumes nothing.
 use Rattle.mathf.proofs.Patterns.{from-no-nan}
 use borrow.Author.Needs.{needs}
-use Rattle.shadow.proofs.falloff.level.Statement.{statement}
-use Rattle.shadow.proofs.falloff.level.Tie as tie
+use Rattle.falloff.proofs.level.Statement.{statement}
+use Rattle.falloff.proofs.level.Tie as tie
 
 float-from-bits-to-u32 : tie.Need-float-from-bits-to-u32
 float-from-bits-to-u32 c = from-no-nan _ (c .pre)

@@ -13,8 +13,7 @@ use borrow.Author.Tests.{eqb-true, ltb-true}
 use Rattle.mathf.specs.F32.{_/ᶠ_, ofℕᶠ, f1, f96}
 use Rattle.mathf.specs.Lerp.{curveOf}
 use Rattle.geom.proofs.Bools.{and-left, and-right}
-use Rattle.shadow.specs.Falloff.{fractionOf, fractionBits, levelBy, OnFile}
-use Rattle.shadow.specs.Shadow.{levelOf}
+use Rattle.falloff.specs.Falloff.{fractionOf, fractionBits, levelBy, OnFile, levelOf}
 
 -- the test f passes at each place of a list and the entry there
 abbrev pub every : (ℕ → ℕ → Bool) → List ℕ → Bool

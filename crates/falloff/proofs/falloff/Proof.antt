@@ -1,14 +1,14 @@
--- `shadow::falloff::falloff` meets its contract. The first i places hold their levels. Assumes nothing.
+-- `falloff::falloff` meets its contract. The first i places hold their levels. Assumes nothing.
 use mathlib.Core.Path.{_≡_, refl, sym, _∙_}
 use Prim.Native.Nat.{_≤_, _-_}
 use native.Mathlib.Numerals.{add-one}
 use native.Mathlib.Omega.{arith}
 use lib.ListN.{length, take, length-set}
 use lib.Seq.{take-suc-set, take-all}
-use Rattle.shadow.specs.Shadow.{levelOf, table}
-use Rattle.shadow.proofs.Fractions.{level-on-file}
-use Rattle.shadow.proofs.falloff.falloff.Statement.{statement}
-use Rattle.shadow.proofs.falloff.falloff.Tie as tie
+use Rattle.falloff.specs.Falloff.{levelOf, table}
+use Rattle.falloff.proofs.Fractions.{level-on-file}
+use Rattle.falloff.proofs.falloff.Statement.{statement}
+use Rattle.falloff.proofs.falloff.Tie as tie
 
 abbrev Inv-loop : tie.InvT-loop
 Inv-loop a fractions lut₀ i₀ lut i = (take i lut ≡ table (levelOf a) i) × (length lut ≡ 97) × (i ≤ 97)

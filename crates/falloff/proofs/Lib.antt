@@ -1,0 +1,2 @@
+-- The law of the table on file.
+pub mod Fractions
