@@ -9,9 +9,10 @@ use lib.Ieee.{Float}
 use Rattle.geom.specs.Box.{noBox}
 use Rattle.geom.proofs.Bools.{and-left, and-right, split}
 use Rattle.gfx.specs.Points.{pointsOk, coordsOk}
-use Rattle.poly.specs.Poly.{painted, polyBox, reachOf, polyReach, needOf, polyNeed, polyOk, needIn, reachIn}
-use Rattle.poly.specs.Rooms.{Near, planned, noPlan, planOf}
-use Rattle.poly.proofs.Boxed.{box-near}
+use Rattle.bounds.specs.Bounds.{painted, polyBox, reachOf, needOf}
+use Rattle.bounds.specs.Plans.{Near, planned, noPlan, planOf}
+use Rattle.bounds.proofs.Boxed.{box-near}
+use Rattle.poly.specs.Poly.{polyReach, polyNeed, polyOk, needIn, reachIn}
 use Rattle.poly.proofs.Calls.{count-of}
 use Rattle.poly.proofs.Needs.{points-some}
 

@@ -22,7 +22,7 @@ use Rattle.paints.specs.declared.Paint.{Paint}
 use Rattle.gfx.proofs.Answers.{refused-call, accepted-call}
 use Rattle.gfx.proofs.Sizes.{Open}
 use Rattle.gfx.proofs.Valid.{side-of, valid-of}
-use Rattle.poly.proofs.Signs.{back}
+use Rattle.bounds.proofs.Signs.{back}
 use Rattle.poly.specs.Poly.{polyReach, polyNeed, polyInk, cleared, polyNumber, Filled}
 
 pub count-of : (pts : List Float) → pointsOk pts ≡ true → length pts ≤ 128

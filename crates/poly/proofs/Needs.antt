@@ -2,12 +2,11 @@
 use mathlib.Core.Path.{_≡_, refl}
 use mathlib.Core.Bool.{true, false, cond}
 use mathlib.Core.List.{List}
-use Prim.Native.Nat.{ℕ, _+_, _*_, _<_, _≤_}
-use native.Mathlib.Nat.{mul-le-mul}
+use Prim.Native.Nat.{ℕ, _+_, _*_, _≤_}
 use native.Mathlib.Omega.{arith}
 use lib.Dec.{leb}
 use lib.Ieee.{Float}
-use borrow.Author.Tests.{leb-true, le-leb, lt-leb}
+use borrow.Author.Tests.{leb-true}
 use Rattle.geom.specs.Box.{noBox, empty}
 use Rattle.geom.specs.declared.IRect.{IRect}
 use Rattle.geom.proofs.Bools.{and-left, split}
@@ -15,35 +14,15 @@ use Rattle.geom.proofs.Boxes.{meet-empty}
 use Rattle.draw.specs.Areas.{area, clipTo, drawnIn}
 use Rattle.draw.proofs.Rows.{none-across}
 use Rattle.accum.specs.Rooms.{Room}
-use Rattle.poly.specs.Poly.{pointCount, polyBox, painted, reachOf, polyReach, needOf, polyNeed, cleared}
-use Rattle.poly.specs.Rooms.{Near, noPlan, planned, planOf}
-use Rattle.poly.specs.declared.bounds.PolyBox.{PolyBox}
-
--- the sizes of a box are no trouble
-pub box-cells : (g : PolyBox) → Near g → g .bw * g .bh ≤ 268500996
-box-cells g n = mul-le-mul (n .wide) (n .high)
-
-pub box-words : (g : PolyBox) → Near g → (g .bw + 2) * g .bh ≤ 268533768
-box-words g n = let w : g .bw + 2 ≤ 16388 = omega (arith, n .wide) in mul-le-mul w (n .high)
+use Rattle.bounds.specs.Bounds.{pointCount, polyBox, painted, reachOf, needOf}
+use Rattle.bounds.specs.Plans.{Near}
+use Rattle.bounds.specs.declared.PolyBox.{PolyBox}
+use Rattle.poly.specs.Poly.{polyReach, polyNeed, cleared}
 
 pub box-room : (g : PolyBox) {n : ℕ} → Near g → n ≡ needOf g → Room (g .bw) (g .bh) n
 box-room g r e = record { wide = r .wide; high = r .high; words = omega (arith, e) }
 
 module _ (pts : List Float) where
-  -- ---- the plan, by the box
-  pub few-plan : pointCount pts < 3 → noPlan ≡ planOf pts
-  unfolding planOf painted
-  few-plan h = rw (lt-leb 3 (pointCount pts) h)
-
-  module _ (g : PolyBox) (e : g ≡ polyBox pts) (h : 3 ≤ pointCount pts) where
-    pub large-plan : 4000000 < g .bw * g .bh → noPlan ≡ planOf pts
-    unfolding planOf painted
-    large-plan l = rw (le-leb 3 (pointCount pts) h, ← e, lt-leb (g .bw * g .bh) 4000000 l)
-
-    pub small-plan : g .bw * g .bh ≤ 4000000 → planned g ≡ planOf pts
-    unfolding planOf painted
-    small-plan l = rw (le-leb 3 (pointCount pts) h, ← e, le-leb (g .bw * g .bh) 4000000 l)
-
   -- ---- by the need: a polygon that is painted needs two words and more
   pub some-painted : (polyNeed pts ≡ 0 → ⊥) → painted pts ≡ true
   unfolding polyNeed

@@ -2,16 +2,14 @@
 use mathlib.Core.Path.{_≡_, sym, ap, subst, _∙_}
 use mathlib.Core.Bool.{true, cond}
 use mathlib.Core.List.{List}
-use Prim.Native.Nat.{ℕ, zero, suc, _+_, _-_, _*_, _<_, _≤_, min}
+use Prim.Native.Nat.{ℕ, _+_, _-_, _*_, _<_, _≤_}
 use native.Mathlib.Omega.{arith}
-use lib.Dec.{ltb}
-use lib.IntN.{ℤ, pos, negsuc, subℕ, _+ℤ_, _-ℤ_}
+use lib.IntN.{ℤ, pos, _+ℤ_, _-ℤ_}
 use lib.Signed.{leZ}
 use lib.ListN.{getD}
 use lib.Ieee.{Float, nan}
-use borrow.Author.Tests.{ltb-true, ltb-false}
 use Rattle.mathf.specs.F32.{_+ᶠ_}
-use Rattle.geom.specs.Int.{up, down}
+use Rattle.geom.specs.Int.{up}
 use Rattle.geom.specs.Box.{meet, empty}
 use Rattle.geom.specs.declared.IRect.{IRect}
 use Rattle.geom.proofs.Bools.{split}
@@ -23,32 +21,12 @@ use Rattle.draw.specs.Areas.{area, areaOf, clipTo}
 use Rattle.draw.specs.declared.Area.{Area}
 use Rattle.paints.specs.Paints.{paintAt, centreOf}
 use Rattle.paints.specs.declared.Paint.{Paint}
-use Rattle.poly.specs.Poly.{offsetOf, runSum, coverOf, inkIn, areaAt, reachOf}
+use Rattle.bounds.specs.Bounds.{reachOf}
+use Rattle.bounds.proofs.Parts.{one-sided, sum-parts, difference-parts}
+use Rattle.bounds.specs.declared.PolyBox.{PolyBox}
+use Rattle.poly.specs.Poly.{offsetOf, runSum, coverOf, inkIn, areaAt}
 use Rattle.poly.specs.Rooms.{Over, inkFrom}
-use Rattle.poly.specs.declared.bounds.PolyBox.{PolyBox}
 use Rattle.poly.proofs.Turns.{runSum-more}
-
--- ---- sums and differences of signed numbers, as `omega` reads them
-
-pub one-sided : (z : ℤ) → min (up z) (down z) ≡ 0
-one-sided (pos n) = omega arith
-one-sided (negsuc n) = omega arith
-
-sub-parts : (a b : ℕ) → up (subℕ a b) + b ≡ a + down (subℕ a b)
-sub-parts a b =
-    split (ltb a b) (λ t. up (cond t (negsuc (b - suc a)) (pos (a - b))) + b ≡ a + down (cond t (negsuc (b - suc a)) (pos (a - b))))
-    (λ e. omega (arith, ltb-true a b e)) (λ e. omega (arith, ltb-false a b e))
-
-pub sum-parts : (a b : ℤ) → up (a +ℤ b) + down a + down b ≡ up a + up b + down (a +ℤ b)
-sum-parts (pos a) (pos b) = omega arith
-sum-parts (pos a) (negsuc b) = omega (arith, sub-parts a (suc b))
-sum-parts (negsuc a) (pos b) = omega (arith, sub-parts b (suc a))
-sum-parts (negsuc a) (negsuc b) = omega arith
-
-pub difference-parts : (a b : ℤ) → up (a -ℤ b) + down a + up b ≡ up a + down b + down (a -ℤ b)
-difference-parts a (pos zero) = sum-parts a (pos zero)
-difference-parts a (pos (suc n)) = sum-parts a (negsuc n)
-difference-parts a (negsuc n) = sum-parts a (pos (suc n))
 
 -- ---- where a column lies in the box
 

@@ -7,14 +7,11 @@ use lib.ListN.{getD}
 use lib.Ieee.{Float, nan}
 use Rattle.mathf.specs.F32.{_+ᶠ_}
 use Rattle.accum.specs.Lines.{lineAccum}
-use Rattle.poly.specs.Poly.{pointCount, pointAt, widened, extentOf, pointFrom, edgesAccum, runSum}
-use Rattle.poly.specs.declared.bounds.PolyBox.{PolyBox}
+use Rattle.bounds.specs.Bounds.{pointCount}
+use Rattle.bounds.specs.declared.PolyBox.{PolyBox}
+use Rattle.poly.specs.Poly.{pointFrom, edgesAccum, runSum}
 
 module _ (pts : List Float) (n : ℕ) where
-  pub extent-more : extentOf pts (n + 1) ≡ widened (extentOf pts n) (pointAt pts n)
-  unfolding extentOf
-  extent-more = ap (λ (k : ℕ). extentOf pts k) (add-one n)
-
   pub edges-more : (a : List Float) (g : PolyBox)
       → edgesAccum a pts g (n + 1) ≡ lineAccum (edgesAccum a pts g n) (g .bw) (g .bh) (pointFrom pts g n) (pointFrom pts g ((n + 1) % pointCount pts))
   unfolding edgesAccum

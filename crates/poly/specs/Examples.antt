@@ -9,7 +9,8 @@ use Rattle.mathf.specs.Whole.{floorOf, ceilOf}
 use Rattle.geom.specs.Box.{boxOf}
 use Rattle.accum.specs.Accum.{bumpRun, shortRow, midRow, innerRow, wideRow, rowAccum}
 use Rattle.accum.specs.Lines.{rowBetween, rowHeight, rowNext, edgeX, edgeRow, edgeRows, startX, edgeDown, edgeOf, firstRow, endRow, lineAccum}
-use Rattle.poly.specs.Poly.{extentOf, originOf, spanOf, polyBox, painted, polyReach, polyNeed, pointFrom, edgesAccum, accumulated, runSum, areaAt, coverOf}
+use Rattle.bounds.specs.Bounds.{extentOf, originOf, spanOf, polyBox, painted}
+use Rattle.poly.specs.Poly.{polyReach, polyNeed, pointFrom, edgesAccum, accumulated, runSum, areaAt, coverOf}
 
 -- the square from (0.5, 0) to (1.5, 1)
 abbrev square : List Float

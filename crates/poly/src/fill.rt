@@ -1,9 +1,9 @@
 // A polygon in the pixels, by a lent scratch.
-use crate::bounds::PolyBox;
-use crate::bounds::plan_of;
 use crate::outline::accumulate;
 use crate::outline::clear;
 use crate::rows::draw_box;
+use bounds::PolyBox;
+use bounds::plan_of;
 use geom::IRect;
 use paints::Paint;
 ghost use mathlib.Core.Path.{_≡_};
@@ -15,8 +15,9 @@ ghost use Rattle.mathf.specs.F32.{f0};
 ghost use Rattle.draw.specs.Areas.{drawnIn, clipTo, AreaFits};
 ghost use Rattle.gfx.specs.Calls.{unless};
 ghost use Rattle.gfx.specs.Points.{coordsOk};
-ghost use Rattle.poly.specs.Poly.{reachOf, needOf, polyReach, polyNeed, accumulated, inkIn, polyInk, cleared};
-ghost use Rattle.poly.specs.Rooms.{Near};
+ghost use Rattle.bounds.specs.Bounds.{reachOf, needOf};
+ghost use Rattle.bounds.specs.Plans.{Near};
+ghost use Rattle.poly.specs.Poly.{polyReach, polyNeed, accumulated, inkIn, polyInk, cleared};
 
 // The polygon under a clip, by its box. The accumulator is exactly as long as it needs to be, and is left +0.
 fn fill_part(

@@ -1,12 +1,11 @@
 // Polygons: signed areas, edge by edge, in a lent accumulator, and from it the pixels.
-mod bounds;
 mod fill;
 mod outline;
 mod rows;
 
-use crate::bounds::plan_of;
-use crate::bounds::reach_of;
 use crate::fill::fill_lent;
+use bounds::plan_of;
+use bounds::reach_of;
 use geom::IRect;
 use geom::nat_of;
 use gfx::Canvas;

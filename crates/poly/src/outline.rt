@@ -1,7 +1,7 @@
 // The edges of a polygon in the accumulator.
-use crate::bounds::PolyBox;
-use crate::bounds::point_at;
 use accum::accum_line;
+use bounds::PolyBox;
+use bounds::point_at;
 use geom::Pt;
 ghost use mathlib.Core.Path.{_≡_};
 ghost use mathlib.Core.List.{List};
@@ -10,8 +10,9 @@ ghost use lib.ListN.{length, replicate};
 ghost use Rattle.mathf.specs.F32.{f0};
 ghost use Rattle.accum.specs.Lines.{lineAccum};
 ghost use Rattle.accum.specs.Rooms.{Room};
-ghost use Rattle.poly.specs.Poly.{pointCount, pointFrom, needOf, edgesAccum, accumulated};
-ghost use Rattle.poly.specs.Rooms.{Near};
+ghost use Rattle.bounds.specs.Bounds.{pointCount, needOf};
+ghost use Rattle.bounds.specs.Plans.{Near};
+ghost use Rattle.poly.specs.Poly.{pointFrom, edgesAccum, accumulated};
 
 // Sets every word to +0.
 pub(crate) fn clear(acc: &mut [f32])

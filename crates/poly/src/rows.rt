@@ -1,6 +1,6 @@
 // From the accumulator to the pixels.
-use crate::bounds::PolyBox;
-use crate::bounds::reach_of;
+use bounds::PolyBox;
+use bounds::reach_of;
 use color::Color;
 use color::blend_c;
 use draw::Area;
@@ -19,8 +19,10 @@ ghost use Rattle.color.specs.Inks.{overC};
 ghost use Rattle.paints.specs.Paints.{paintAt, centreOf};
 ghost use Rattle.draw.specs.Areas.{drawnIn, area, clipTo, RowFits, AreaFits};
 ghost use Rattle.accum.specs.Rooms.{Room};
-ghost use Rattle.poly.specs.Poly.{runSum, offsetOf, coverOf, inkIn, reachOf};
-ghost use Rattle.poly.specs.Rooms.{Near, Over, inkFrom};
+ghost use Rattle.bounds.specs.Bounds.{reachOf};
+ghost use Rattle.bounds.specs.Plans.{Near};
+ghost use Rattle.poly.specs.Poly.{runSum, offsetOf, coverOf, inkIn};
+ghost use Rattle.poly.specs.Rooms.{Over, inkFrom};
 ghost use Rattle.paints.specs.declared.Paint.the-variants.{Solid, Linear};
 
 // A signed area as a coverage, 0 to 255. Most of a box lies outside the polygon: there nothing is converted.

@@ -8,8 +8,9 @@ use lib.Seq.{length-take-le}
 use lib.Ieee.{Float}
 use borrow.Author.Tests.{le-leb, lt-leb}
 use Rattle.draw.specs.Areas.{clipTo, AreaFits}
-use Rattle.poly.specs.Poly.{polyBox, painted, reachOf, needOf, polyNeed, polyInk, cleared}
-use Rattle.poly.specs.Rooms.{Near}
+use Rattle.bounds.specs.Bounds.{polyBox, painted, reachOf, needOf}
+use Rattle.bounds.specs.Plans.{Near}
+use Rattle.poly.specs.Poly.{polyNeed, polyInk, cleared}
 use Rattle.poly.proofs.Accepts.{plan-need, plan-box, plan-near}
 use Rattle.poly.proofs.Needs.{some-painted, none-painted, reach-is, need-is, nothing-drawn, nothing-cleared}
 use borrow.Author.Needs.{needs}

@@ -8,8 +8,8 @@ use lib.Ieee.{binary32, inFloat}
 use mir.Syntax.{w32}
 use mir.Val.{toZ, ofZ}
 use Rattle.mathf.proofs.Bounds.{in-float-signed}
+use Rattle.bounds.proofs.Signs.{back}
 use Rattle.poly.specs.Poly.{pointFrom}
-use Rattle.poly.proofs.Signs.{back}
 use borrow.Author.Needs.{needs}
 use Rattle.poly.proofs.outline.point_from.Statement.{statement}
 use Rattle.poly.proofs.outline.point_from.Tie as tie

@@ -4,7 +4,8 @@ use Rattle.draw.specs.Areas.{drawnIn, clipTo, AreaFits}
 use lib.ListN.{length}
 use Rattle.draw.specs.declared.Area.{Area}
 use Rattle.draw.proofs.Rows.{none-across, none-down}
-use Rattle.poly.specs.Poly.{inkIn, reachOf}
+use Rattle.bounds.specs.Bounds.{reachOf}
+use Rattle.poly.specs.Poly.{inkIn}
 use Rattle.poly.proofs.Spans.{clip-over}
 use borrow.Author.Needs.{needs}
 use Rattle.poly.proofs.rows.draw_box.Statement.{statement}

@@ -2,7 +2,7 @@
 use mathlib.Core.Path.{_∙_}
 use native.Mathlib.Omega.{arith}
 use lib.IntN.{pos, _-ℤ_}
-use Rattle.poly.proofs.Signs.{back, difference-small, difference-fits}
+use Rattle.bounds.proofs.Signs.{back, difference-small, difference-fits}
 use borrow.Author.Needs.{needs}
 use Rattle.poly.proofs.rows.offset.Statement.{statement}
 use Rattle.poly.proofs.rows.offset.Tie as tie

@@ -4,9 +4,9 @@ use Prim.Native.Nat.{_+_, _*_, _≤_}
 use native.Mathlib.Omega.{arith}
 use lib.ListN.{length}
 use Rattle.draw.proofs.Rows.{row-same}
+use Rattle.bounds.proofs.Signs.{back}
 use Rattle.poly.specs.Poly.{offsetOf, inkIn}
 use Rattle.poly.specs.Rooms.{inkFrom}
-use Rattle.poly.proofs.Signs.{back}
 use Rattle.poly.proofs.Spans.{ink-in}
 use Rattle.accum.proofs.Turns.{row-words}
 use borrow.Author.Needs.{needs}

@@ -1,12 +1,12 @@
--- `poly::bounds::origin` meets its contract. Assumes nothing.
+-- `bounds::origin` meets its contract. Assumes nothing.
 use Prim.Native.Nat.{_≤_}
 use native.Mathlib.Omega.{arith}
 use lib.IntN.{pos, natAbs, _-ℤ_}
-use Rattle.poly.specs.Poly.{originOf}
-use Rattle.poly.proofs.Signs.{back, difference-small, difference-fits}
+use Rattle.bounds.specs.Bounds.{originOf}
+use Rattle.bounds.proofs.Signs.{back, difference-small, difference-fits}
 use borrow.Author.Needs.{needs}
-use Rattle.poly.proofs.bounds.origin.Statement.{statement}
-use Rattle.poly.proofs.bounds.origin.Tie as tie
+use Rattle.bounds.proofs.origin.Statement.{statement}
+use Rattle.bounds.proofs.origin.Tie as tie
 
 floor-requires : tie.Need-floor-requires
 floor-requires c κs = search needs

@@ -1,14 +1,14 @@
--- `poly::bounds::reach_of` meets its contract. Assumes nothing.
+-- `bounds::reach_of` meets its contract. Assumes nothing.
 use mathlib.Core.Path.{_∙_}
 use Prim.Native.Nat.{ℕ, _≤_}
 use native.Mathlib.Omega.{arith}
 use lib.IntN.{ℤ, pos, natAbs, _+ℤ_}
 use mir.Syntax.{w32}
 use mir.Val.{SFits, toZ, ofZ}
-use Rattle.poly.proofs.Signs.{back, sum-small, sum-fits}
+use Rattle.bounds.proofs.Signs.{back, sum-small, sum-fits}
 use borrow.Author.Needs.{needs}
-use Rattle.poly.proofs.bounds.reach_of.Statement.{statement}
-use Rattle.poly.proofs.bounds.reach_of.Tie as tie
+use Rattle.bounds.proofs.reach_of.Statement.{statement}
+use Rattle.bounds.proofs.reach_of.Tie as tie
 
 -- the far side of a box
 side : (o : ℤ) (n : ℕ) → natAbs o ≤ 16386 → n ≤ 16386 → SFits w32 (toZ w32 (ofZ w32 o) +ℤ toZ w32 n)

@@ -1,12 +1,12 @@
--- `poly::bounds::extent_of` meets its contract. Assumes nothing.
+-- `bounds::extent_of` meets its contract. Assumes nothing.
 use mathlib.Core.Path.{_≡_, refl, sym, _∙_}
 use Prim.Native.Nat.{_-_, _≤_}
 use native.Mathlib.Nat.{le-antisymm}
 use native.Mathlib.Omega.{arith}
-use Rattle.poly.specs.Poly.{extentOf}
-use Rattle.poly.proofs.Turns.{extent-more}
-use Rattle.poly.proofs.bounds.extent_of.Statement.{statement}
-use Rattle.poly.proofs.bounds.extent_of.Tie as tie
+use Rattle.bounds.specs.Bounds.{extentOf}
+use Rattle.bounds.proofs.Turns.{extent-more}
+use Rattle.bounds.proofs.extent_of.Statement.{statement}
+use Rattle.bounds.proofs.extent_of.Tie as tie
 
 abbrev Inv-loop : tie.InvT-loop
 Inv-loop pts n e₀ i₀ e i = (i ≤ n) × (e ≡ extentOf pts i)

@@ -1,16 +1,16 @@
--- `poly::bounds::poly_box` meets its contract. Assumes nothing.
+-- `bounds::poly_box` meets its contract. Assumes nothing.
 use mathlib.Core.Path.{_≡_}
 use Prim.Native.Nat.{_≤_}
 use native.Mathlib.Omega.{arith}
 use lib.IntN.{natAbs}
 use mir.Syntax.{w32}
 use mir.Val.{toZ, ofZ}
-use Rattle.poly.specs.Poly.{polyBox}
-use Rattle.poly.proofs.Boxed.{Whole, extent-whole, origin-near}
-use Rattle.poly.proofs.Signs.{back}
+use Rattle.bounds.specs.Bounds.{polyBox}
+use Rattle.bounds.proofs.Boxed.{Whole, extent-whole, origin-near}
+use Rattle.bounds.proofs.Signs.{back}
 use borrow.Author.Needs.{needs}
-use Rattle.poly.proofs.bounds.poly_box.Statement.{statement}
-use Rattle.poly.proofs.bounds.poly_box.Tie as tie
+use Rattle.bounds.proofs.poly_box.Statement.{statement}
+use Rattle.bounds.proofs.poly_box.Tie as tie
 
 extent-of-requires : tie.Need-extent-of-requires
 extent-of-requires c κs = search needs

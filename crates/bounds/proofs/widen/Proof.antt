@@ -1,7 +1,7 @@
--- `poly::bounds::widen` meets its contract. Assumes nothing.
+-- `bounds::widen` meets its contract. Assumes nothing.
 use borrow.Author.Needs.{needs}
-use Rattle.poly.proofs.bounds.widen.Statement.{statement}
-use Rattle.poly.proofs.bounds.widen.Tie as tie
+use Rattle.bounds.proofs.widen.Statement.{statement}
+use Rattle.bounds.proofs.widen.Tie as tie
 
 min-requires : tie.Need-min-requires
 min-requires c κs = search needs

@@ -23,10 +23,10 @@ use Rattle.mathf.proofs.Ints.{sum-size, difference-size}
 use Rattle.geom.specs.Plane.{floatOk}
 use Rattle.geom.proofs.Bools.{and-left, and-right}
 use Rattle.gfx.specs.Points.{coordsOk}
-use Rattle.poly.specs.Poly.{pointCount, fMax, extentOf, originOf, spanOf, polyBox}
-use Rattle.poly.specs.Rooms.{Ranged, Near}
-use Rattle.poly.specs.declared.bounds.Extent.{Extent}
-use Rattle.poly.proofs.Signs.{up-size}
+use Rattle.bounds.specs.Bounds.{pointCount, fMax, extentOf, originOf, spanOf, polyBox}
+use Rattle.bounds.specs.Plans.{Ranged, Near}
+use Rattle.bounds.specs.declared.Extent.{Extent}
+use Rattle.bounds.proofs.Signs.{up-size}
 
 -- ---- a float within 8,192 of 0
 

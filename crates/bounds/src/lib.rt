@@ -10,8 +10,8 @@ ghost use lib.ListN.{length};
 ghost use Rattle.mathf.specs.Convert.{toI32};
 ghost use Rattle.mathf.specs.Whole.{floorOf, ceilOf};
 ghost use Rattle.gfx.specs.Points.{coordsOk};
-ghost use Rattle.poly.specs.Poly.{pointCount, pointAt, widened, extentOf, originOf, spanOf, polyBox, reachOf};
-ghost use Rattle.poly.specs.Rooms.{Ranged, Near, planOf};
+ghost use Rattle.bounds.specs.Bounds.{pointCount, pointAt, widened, extentOf, originOf, spanOf, polyBox, reachOf};
+ghost use Rattle.bounds.specs.Plans.{Ranged, Near, planOf};
 
 // The least and the greatest coordinates.
 pub struct Extent {
@@ -35,7 +35,7 @@ pub struct Plan {
     pub need: usize,
 }
 
-pub(crate) fn point_at(pts: &[f32], i: usize) -> Pt
+pub fn point_at(pts: &[f32], i: usize) -> Pt
     requires { ⌜ i * 2 + 1 < length (now pts) ⌝ }
     ensures { λ r. ⌜ r ≡ pointAt (now (pts .entry)) i ⌝ }
 {
@@ -101,7 +101,7 @@ pub(crate) fn poly_box(pts: &[f32]) -> PolyBox
     PolyBox { ox, oy, bw, bh }
 }
 
-pub(crate) fn reach_of(g: PolyBox) -> IRect
+pub fn reach_of(g: PolyBox) -> IRect
     requires { ⌜ Near g ⌝ }
     ensures { λ r. ⌜ r ≡ reachOf g ⌝ }
 {
@@ -111,7 +111,7 @@ pub(crate) fn reach_of(g: PolyBox) -> IRect
 }
 
 // The box and the need of what is painted.
-pub(crate) fn plan_of(pts: &[f32]) -> Plan
+pub fn plan_of(pts: &[f32]) -> Plan
     requires { ⌜ (length (now pts) ≤ 128) × (coordsOk (now pts) ≡ true) ⌝ }
     ensures { λ r. ⌜ r ≡ planOf (now (pts .entry)) ⌝ }
 {

@@ -1,14 +1,14 @@
--- `poly::bounds::span` meets its contract. Assumes nothing.
+-- `bounds::span` meets its contract. Assumes nothing.
 use mathlib.Core.Path.{_∙_}
 use Prim.Native.Nat.{_≤_}
 use native.Mathlib.Omega.{arith}
 use lib.IntN.{pos, natAbs, _+ℤ_, _-ℤ_}
 use Rattle.mathf.proofs.Ints.{sum-size}
-use Rattle.poly.specs.Poly.{spanOf}
-use Rattle.poly.proofs.Signs.{back, sum-fits, difference-small, difference-fits}
+use Rattle.bounds.specs.Bounds.{spanOf}
+use Rattle.bounds.proofs.Signs.{back, sum-fits, difference-small, difference-fits}
 use borrow.Author.Needs.{needs}
-use Rattle.poly.proofs.bounds.span.Statement.{statement}
-use Rattle.poly.proofs.bounds.span.Tie as tie
+use Rattle.bounds.proofs.span.Statement.{statement}
+use Rattle.bounds.proofs.span.Tie as tie
 
 ceil-requires : tie.Need-ceil-requires
 ceil-requires c κs = search needs

@@ -1,10 +1,10 @@
--- `poly::bounds::plan_of` meets its contract. Assumes nothing.
+-- `bounds::plan_of` meets its contract. Assumes nothing.
 use native.Mathlib.Omega.{arith}
-use Rattle.poly.specs.Rooms.{Ranged, Near}
-use Rattle.poly.proofs.Boxed.{box-near}
-use Rattle.poly.proofs.Needs.{box-cells, box-words, few-plan, large-plan, small-plan}
-use Rattle.poly.proofs.bounds.plan_of.Statement.{statement}
-use Rattle.poly.proofs.bounds.plan_of.Tie as tie
+use Rattle.bounds.specs.Plans.{Ranged, Near}
+use Rattle.bounds.proofs.Boxed.{box-near}
+use Rattle.bounds.proofs.Needs.{box-cells, box-words, few-plan, large-plan, small-plan}
+use Rattle.bounds.proofs.plan_of.Statement.{statement}
+use Rattle.bounds.proofs.plan_of.Tie as tie
 
 ranged : (c : tie.Else1) → Ranged (c .before .before .args .pts .now)
 ranged c = record { few = c .before .before .pre .0; some = c .if1 .left; coords = c .before .before .pre .1 }

@@ -20,11 +20,11 @@ use Rattle.mathf.proofs.Bounds.{signed-whole, cut-le, taken-le}
 use Rattle.mathf.proofs.Compared.{at-most, le-same, le-through, or-l, left-zero, right-zero}
 use Rattle.geom.proofs.Int.{orderZ}
 use Rattle.gfx.specs.Points.{coordsOk}
-use Rattle.poly.specs.Poly.{pointCount, fMax, extentOf, originOf, spanOf, polyBox}
-use Rattle.poly.specs.Rooms.{Ranged}
-use Rattle.poly.specs.declared.bounds.Extent.{Extent}
-use Rattle.poly.proofs.Boxed.{Small, below-max, above-min, Close, coordinate, extent-close, last}
-use Rattle.poly.proofs.Spans.{one-sided, sum-parts, difference-parts}
+use Rattle.bounds.specs.Bounds.{pointCount, fMax, extentOf, originOf, spanOf, polyBox}
+use Rattle.bounds.specs.Plans.{Ranged}
+use Rattle.bounds.specs.declared.Extent.{Extent}
+use Rattle.bounds.proofs.Boxed.{Small, below-max, above-min, Close, coordinate, extent-close, last}
+use Rattle.bounds.proofs.Parts.{one-sided, sum-parts, difference-parts}
 
 -- ---- a floor and a ceiling, as whole numbers
 
