@@ -8,5 +8,5 @@ abbrev pub halfAt : List ℕ → ℕ → ℕ
 halfAt bs at = getD bs at 0 + 256 * getD bs (at + 1) 0
 
 -- the word at place i, counted in words
-abbrev pub wordAt : List ℕ → ℕ → ℕ
+unfoldable pub wordAt : List ℕ → ℕ → ℕ
 wordAt bs i = halfAt bs (4 * i) + 65536 * halfAt bs (4 * i + 2)

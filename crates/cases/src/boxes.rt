@@ -1,6 +1,10 @@
 // What the proved functions of geom answer: four words, those past the answer 0.
 use crate::word::bits;
+use crate::word::float;
+use crate::word::from;
+use crate::word::int;
 use crate::word::pattern;
+use crate::word::word;
 use geom::IRect;
 use geom::Rect;
 
@@ -11,7 +15,7 @@ pub struct Four {
     pub d: u32,
 }
 
-fn one(a: u32) -> Four {
+pub fn one(a: u32) -> Four {
     Four {
         a,
         b: 0,
@@ -33,7 +37,7 @@ fn of_rect(r: Rect) -> Four {
     }
 }
 
-fn of_box(b: IRect) -> Four {
+pub fn of_box(b: IRect) -> Four {
     Four {
         a: bits(b.x0),
         b: bits(b.y0),
@@ -42,7 +46,28 @@ fn of_box(b: IRect) -> Four {
     }
 }
 
-pub fn rect(f: u32, r: Rect, o: Rect) -> Four {
+// Whether the first four words are these.
+pub fn same_four(r: Four, words: &[u8]) -> bool {
+    let left = (r.a == word(words, 0)) & (r.b == word(words, 1));
+    left & (r.c == word(words, 2)) & (r.d == word(words, 3))
+}
+
+// The rectangle of the first four words.
+pub fn rect(words: &[u8]) -> Rect {
+    Rect::new(
+        float(words, 0),
+        float(words, 1),
+        float(words, 2),
+        float(words, 3),
+    )
+}
+
+// The box of the first four words.
+pub fn irect(words: &[u8]) -> IRect {
+    IRect::new(int(words, 0), int(words, 1), int(words, 2), int(words, 3))
+}
+
+fn of_rects(f: u32, r: Rect, o: Rect) -> Four {
     match f {
         1 => one(pattern(r.right())),
         2 => one(pattern(r.bottom())),
@@ -57,9 +82,22 @@ pub fn rect(f: u32, r: Rect, o: Rect) -> Four {
     }
 }
 
-pub fn irect(f: u32, r: IRect, o: IRect) -> Four {
+fn of_boxes(f: u32, r: IRect, o: IRect) -> Four {
     match f {
         11 => of_box(r.intersect(o)),
         _ => flag(r.is_empty()),
     }
+}
+
+fn answer(f: u32, words: &[u8]) -> Four {
+    if f <= 10 {
+        of_rects(f, rect(words), rect(from(words, 4)))
+    } else {
+        of_boxes(f, irect(words), irect(from(words, 4)))
+    }
+}
+
+// A case: the function, two rectangles or two boxes, and the answer's four words.
+pub(crate) fn agrees(case: &[u8]) -> bool {
+    same_four(answer(word(case, 0), from(case, 1)), from(case, 9))
 }

@@ -1,7 +1,7 @@
-// Words of 32 bits in bytes, the lowest byte first, and floats as words.
+// Words of 32 bits in bytes, the lowest byte first, and floats and signed numbers as words.
 ghost use mathlib.Core.Path.{_≡_};
 ghost use Prim.Native.Nat.{_+_, _*_, _^_, _<_};
-ghost use lib.ListN.{getD};
+ghost use lib.ListN.{getD, take, drop};
 ghost use lib.Ieee.{binary32, ofBits};
 ghost use Rattle.cases.specs.Word.{halfAt, wordAt};
 
@@ -28,7 +28,7 @@ fn half(bytes: &[u8], at: usize) -> u32
     low + 256 * high
 }
 
-// The word at place i, counted in words.
+// The word at place i, counted in words; what lies past the end is 0.
 pub fn word(bytes: &[u8], i: u32) -> u32
     ensures { λ r. ⌜ r ≡ wordAt (now (bytes .entry)) i ⌝ }
 {
@@ -38,8 +38,32 @@ pub fn word(bytes: &[u8], i: u32) -> u32
     low + 65536 * high
 }
 
+// The bytes from word i on; none past the end.
+pub fn from(bytes: &[u8], i: u32) -> &[u8]
+    ensures { λ r. ⌜ now r ≡ drop (4 * i) (now (bytes .entry)) ⌝ }
+{
+    let at = 4 * (i as usize);
+    if at <= bytes.len() {
+        &bytes[at..]
+    } else {
+        &bytes[..0]
+    }
+}
+
+// The first n bytes, or as many as there are.
+pub fn upto(bytes: &[u8], n: u32) -> &[u8]
+    ensures { λ r. ⌜ now r ≡ take n (now (bytes .entry)) ⌝ }
+{
+    let to = n as usize;
+    if to <= bytes.len() {
+        &bytes[..to]
+    } else {
+        bytes
+    }
+}
+
 // The number with a low and a high word.
-pub fn pair(low: u32, high: u32) -> u64 {
+pub(crate) fn pair(low: u32, high: u32) -> u64 {
     (low as u64) + 4294967296 * (high as u64)
 }
 
@@ -52,6 +76,11 @@ pub fn float_of(b: u32) -> f32
     } else {
         f32::from_bits(b)
     }
+}
+
+// The float at place i.
+pub fn float(bytes: &[u8], i: u32) -> f32 {
+    float_of(word(bytes, i))
 }
 
 // The pattern of x; of every NaN one and the same.
@@ -69,11 +98,15 @@ pub fn bits(z: i32) -> u32 {
     (n % 4294967296) as u32
 }
 
-// The number whose bits are b.
-pub fn int_of(b: u32) -> i32 {
+fn int_of(b: u32) -> i32 {
     if b < 2147483648 {
         b as i32
     } else {
         !((4294967295 - b) as i32)
     }
+}
+
+// The signed number at place i, in two's complement.
+pub fn int(bytes: &[u8], i: u32) -> i32 {
+    int_of(word(bytes, i))
 }

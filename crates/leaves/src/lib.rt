@@ -1,4 +1,7 @@
 // The leaf functions over whole slices, for Rust to call: comparison at scale and speed.
+use call_cases::ALL;
+use call_cases::count;
+use call_cases::shape;
 ghost use mathlib.Core.Path.{_≡_};
 ghost use mathlib.Core.List.{map};
 ghost use Rattle.mathf.specs.Convert.{toU8, toU32, toUsize, toI32};
@@ -93,11 +96,11 @@ pub extern "C" fn leaves_blend(px: &mut [u32], r: u8, g: u8, b: u8, a: u8)
 // How many of the cases of an area differ, in the form in which they are stored.
 #[no_mangle]
 pub extern "C" fn leaves_differing(bytes: &[u8], area: u32) -> u32 {
-    cases::differing(bytes, area)
+    count(bytes, area, ALL).differ
 }
 
 // Draws the shape of a case's words; returns its number, or 99 where the state is not left as it was.
 #[no_mangle]
 pub extern "C" fn leaves_shape(bytes: &[u8], px: &mut [u32], scratch: &mut [f32]) -> u32 {
-    cases::shape(bytes, px, scratch)
+    shape(bytes, px, scratch)
 }

@@ -1,0 +1,70 @@
+// Sheet calls: a case has the call's kind, what is lent, what the call must answer and leave, and the bytes of the old and the new sheet.
+use crate::lent::as_stored;
+use crate::lent::fill;
+use crate::lent::scratch;
+use cases::of_box;
+use cases::same_four;
+use cases::word::from;
+use cases::word::upto;
+use cases::word::word;
+use paint::paint;
+use patch::patch;
+use redraw::Answer;
+
+// The old sheet of a patch.
+fn old_sheet(case: &[u8]) -> &[u8] {
+    upto(from(case, 78), word(case, 1))
+}
+
+// How many words n bytes fill.
+fn words(n: u32) -> u32 {
+    n / 4 + (n % 4 + 3) / 4
+}
+
+// The sheet that is painted, or the new one of a patch: it stands after the old one.
+fn new_sheet(case: &[u8]) -> &[u8] {
+    let sheets = from(case, 78);
+    upto(from(sheets, words(word(case, 1))), word(case, 2))
+}
+
+fn said(a: Answer, words: &[u8]) -> bool {
+    let numbers = (a.number == word(words, 0)) & (a.item == word(words, 1));
+    numbers & same_four(of_box(a.area), from(words, 2))
+}
+
+// Whether a call answered and left what the case's words say.
+fn held(a: Answer, px: &[u32], scratch: &[f32], case: &[u8]) -> bool {
+    said(a, from(case, 7)) & as_stored(px, scratch, from(case, 13))
+}
+
+fn painted(case: &[u8], px: &mut [u32], scratch: &mut [f32]) -> bool {
+    let a = paint(new_sheet(case), px, scratch);
+    held(a, px, scratch, case)
+}
+
+fn patched(case: &[u8], px: &mut [u32], scratch: &mut [f32]) -> bool {
+    let a = patch(old_sheet(case), new_sheet(case), px, scratch);
+    held(a, px, scratch, case)
+}
+
+// Paints the old sheet with scratch of its own.
+fn paint_old(case: &[u8], px: &mut [u32]) {
+    let mut scratch = scratch();
+    paint(old_sheet(case), px, &mut scratch);
+}
+
+fn painted_and_patched(case: &[u8], px: &mut [u32], scratch: &mut [f32]) -> bool {
+    paint_old(case, px);
+    patched(case, px, scratch)
+}
+
+// Whether the call of a case does what is stored.
+pub(crate) fn agrees(case: &[u8], px: &mut [u32], scratch: &mut [f32]) -> bool {
+    fill(px, from(case, 4));
+    match word(case, 0) {
+        1 => painted(case, px, scratch),
+        2 => patched(case, px, scratch),
+        3 => painted_and_patched(case, px, scratch),
+        _ => false,
+    }
+}
