@@ -1,7 +1,8 @@
 // What the proved functions of mathf and color answer. A case has the function's number, its inputs, and the answer's low and high word.
-use crate::word::bits;
 use crate::word::float;
 use crate::word::float_of;
+use crate::word::int;
+use crate::word::joined;
 use crate::word::pair;
 use crate::word::pattern;
 use crate::word::word;
@@ -27,20 +28,18 @@ fn mathf_answer(f: u32, a: f32, b: f32, c: f32) -> u64 {
         4 => mathf::to_u8(a) as u64,
         5 => mathf::to_u32(a) as u64,
         6 => mathf::to_usize(a) as u64,
-        7 => bits(mathf::to_i32(a)) as u64,
         _ => pattern(mathf_float(f, a, b, c)) as u64,
     }
 }
 
 // Three floats.
 pub(crate) fn mathf(case: &[u8]) -> bool {
-    let r = mathf_answer(
-        word(case, 0),
-        float(case, 1),
-        float(case, 2),
-        float(case, 3),
-    );
-    r == pair(word(case, 4), word(case, 5))
+    let f = word(case, 0);
+    let a = float(case, 1);
+    if f == 7 {
+        return (mathf::to_i32(a) == int(case, 4)) & (word(case, 5) == 0);
+    }
+    mathf_answer(f, a, float(case, 2), float(case, 3)) == pair(word(case, 4), word(case, 5))
 }
 
 // A colour is stored as the bytes red, green, blue, alpha of a word, the lowest first.
@@ -54,7 +53,7 @@ pub fn color_of(w: u32) -> Color {
 }
 
 pub(crate) fn color_word(c: Color) -> u32 {
-    c.r as u32 + 256 * (c.g as u32) + 65536 * (c.b as u32) + 16777216 * (c.a as u32)
+    joined(c.r, c.g, c.b, c.a)
 }
 
 fn color_color(f: u32, a: u32, b: u32, c: u32) -> Color {

@@ -7,21 +7,11 @@ mod samples;
 pub mod word;
 
 pub use crate::answer::color_of;
-pub use crate::boxes::Four;
 pub use crate::boxes::irect;
-pub use crate::boxes::of_box;
-pub use crate::boxes::one;
 pub use crate::boxes::rect;
-pub use crate::boxes::same_four;
+pub use crate::boxes::same_box;
 pub use crate::samples::paint;
-
-pub const MATHF: u32 = 0;
-
-pub const COLOR: u32 = 1;
-
-pub const GEOM: u32 = 2;
-
-pub const PAINT: u32 = 4;
+pub use crate::samples::point;
 
 // Whether a case of one of these areas has the answer of the proved functions.
 pub fn agrees(area: u32, case: &[u8]) -> bool {

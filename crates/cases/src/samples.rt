@@ -9,7 +9,7 @@ use geom::Pt;
 use paints::Paint;
 
 // The point of the first two words.
-fn point(words: &[u8]) -> Pt {
+pub fn point(words: &[u8]) -> Pt {
     Pt::new(float(words, 0), float(words, 1))
 }
 

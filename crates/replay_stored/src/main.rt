@@ -1,16 +1,8 @@
-// Replays the stored answers of the unchanged Rust: how many cases of each function ran, and how many differ. The cases of an area are in a
-// file of its name; a function goes by its number.
-use call_cases::ALL;
-use call_cases::CANVAS;
-use call_cases::ORDER;
-use call_cases::SHAPE;
-use call_cases::SHEET;
-use call_cases::Tally;
-use call_cases::count;
-use cases::COLOR;
-use cases::GEOM;
-use cases::MATHF;
-use cases::PAINT;
+// Replays the stored answers of the unchanged Rust: how many cases of each function of an area ran, and how many differ. The arguments name
+// the files of the areas, in the areas' order; a function goes by its number.
+use leaves::ALL;
+use leaves::Tally;
+use leaves::count;
 ghost use mathlib.Core.Path.{_≡_};
 ghost use lib.ListN.{length};
 ghost use Rattle.io.specs.Counts.{Counts};
@@ -47,9 +39,23 @@ fn line(name: &[u8], f: u32, t: Tally) {
     print(t);
 }
 
+// How many functions an area has.
+fn functions(area: u32) -> u32 {
+    match area {
+        0 => 14,
+        1 => 13,
+        2 => 12,
+        3 | 5 => 9,
+        4 => 6,
+        6 => 1,
+        7 => 3,
+        _ => 5,
+    }
+}
+
 // A line for each function of an area.
-fn lines(name: &[u8], bytes: &[u8], area: u32, first: u32, last: u32) {
-    for f in first..=last {
+fn lines(name: &[u8], bytes: &[u8], area: u32) {
+    for f in 1..=functions(area) {
         line(name, f, count(bytes, area, f));
     }
 }
@@ -60,34 +66,27 @@ fn total(name: &[u8], bytes: &[u8], area: u32) {
     print(count(bytes, area, ALL));
 }
 
-fn replay(buf: &mut [u8], name: &[u8], area: u32, first: u32, last: u32) {
+fn replay(name: &[u8], buf: &mut [u8], area: u32) {
     let n = read(name, buf);
     let bytes = &buf[..n];
-    lines(name, bytes, area, first, last);
+    lines(name, bytes, area);
     total(name, bytes, area);
 }
 
-fn leaf_functions(buf: &mut [u8]) {
-    replay(buf, b"mathf", MATHF, 1, 14);
-    replay(buf, b"color", COLOR, 1, 13);
-    replay(buf, b"geom", GEOM, 1, 12);
-    replay(buf, b"paint", PAINT, 1, 6);
+// Replays the area whose file the next argument names.
+fn replay_next(buf: &mut [u8], area: u32) {
+    let mut name = [0; 16];
+    let n = os::arg(area as usize + 1, &mut name);
+    replay(&name[..n], buf, area);
 }
 
-fn calls(buf: &mut [u8]) {
-    replay(buf, b"canvas", CANVAS, 1, 9);
-    replay(buf, b"shapes", SHAPE, 1, 9);
-    replay(buf, b"sheets", SHEET, 1, 1);
-    replay(buf, b"patches", SHEET, 2, 3);
-    replay(buf, b"orders", ORDER, 1, 5);
-}
-
-fn all(buf: &mut [u8]) {
-    leaf_functions(buf);
-    calls(buf);
+fn replay_all(buf: &mut [u8]) {
+    for area in 0..9 {
+        replay_next(buf, area);
+    }
 }
 
 fn main() {
     let mut buf = buffer();
-    all(&mut buf);
+    replay_all(&mut buf);
 }
