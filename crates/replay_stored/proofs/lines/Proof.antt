@@ -5,10 +5,13 @@ use Rattle.replay_stored.proofs.lines.Statement.{statement}
 use Rattle.replay_stored.proofs.lines.Tie as tie
 
 abbrev Inv-loop : tie.InvT-loop
-Inv-loop name bytes area first last f₀ f = first ≤ f
+Inv-loop name bytes area f₀ f-end f = 1 ≤ f
 
 abbrev μ-loop : tie.MeasureT-loop
-μ-loop name bytes area first last f₀ f = last - f
+μ-loop name bytes area f₀ f-end f = f-end - f
+
+functions-requires : tie.Need-functions-requires Inv-loop μ-loop
+functions-requires c κs = tt
 
 loop-holds : tie.Need-loop-holds Inv-loop μ-loop
 loop-holds c = omega arith
@@ -40,6 +43,7 @@ lines-spec =
     (tie.spec
     Inv-loop
     μ-loop
+    functions-requires
     loop-holds
     count-requires
     line-requires

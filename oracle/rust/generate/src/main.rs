@@ -66,8 +66,8 @@ fn main() {
     printed.stored(&folder, "mathf", mathf::stored());
     printed.stored(&folder, "color", color::stored());
     printed.stored(&folder, "geom", geom::stored());
-    printed.stored(&folder, "paint", paint::stored());
     printed.stored(&folder, "canvas", canvas::stored());
+    printed.stored(&folder, "paint", paint::stored());
     printed.stored(&folder, "shapes", shape::stored());
     printed.stored(&folder, "sheets", sheet::paintings());
     printed.stored(&folder, "patches", sheet::patches());

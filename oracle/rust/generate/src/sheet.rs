@@ -172,5 +172,5 @@ pub fn patches() -> Stored {
         }
     }
     all_stand(&cases, &[1, 2, 3, 4, 5, 6, 7, 8, 9, 10, 13], 2);
-    Stored { functions: PATCH..=AFTER, width: WIDTH, cases }
+    Stored { functions: PAINT..=AFTER, width: WIDTH, cases }
 }
