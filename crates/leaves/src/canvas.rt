@@ -69,68 +69,10 @@ pub(crate) fn same_state(a: Canvas, b: Canvas) -> bool {
     sides & same_box(a.clip, b.clip) & same_saved(p, q)
 }
 
-fn resized(case: &[u8], px: &mut [u32]) -> Done {
-    let w = int(case, 1);
-    let h = int(case, 2);
-    state(from(case, 8)).resize(w, h, px)
-}
-
-fn cleared(case: &[u8], px: &mut [u32]) -> Done {
-    let ink = color_of(word(case, 1));
-    state(from(case, 8)).clear(px, ink)
-}
-
-fn pushed(case: &[u8]) -> Done {
-    let r = rect(from(case, 1));
-    state(from(case, 8)).push_clip(r)
-}
-
-fn pushed_box(case: &[u8]) -> Done {
-    let b = irect(from(case, 1));
-    state(from(case, 8)).push_clip_i(b)
-}
-
-// The calls that return a state.
-fn changed(case: &[u8], px: &mut [u32]) -> Done {
-    match word(case, 0) {
-        1 => Canvas::new(int(case, 1), int(case, 2), px),
-        2 => resized(case, px),
-        3 => pushed(case),
-        4 => pushed_box(case),
-        5 => state(from(case, 8)).pop_clip(),
-        _ => cleared(case, px),
-    }
-}
-
-// Whether a call answered as stored: the number, four zeros, and, past the base and step of the pixels, the state.
-fn same_done(d: Done, words: &[u8]) -> bool {
-    let none = same_box(IRect::ZERO, irect(from(words, 1)));
-    (d.number == word(words, 0)) & none & same_state(d.canvas, state(from(words, 7)))
-}
-
-fn same_pixel(p: Pixel, words: &[u8]) -> bool {
-    let said = (p.number == word(words, 0)) & (p.value == word(words, 1));
-    said & (word(words, 2) == 0) & (word(words, 3) == 0) & (word(words, 4) == 0)
-}
-
-fn same_boxed(b: Boxed, words: &[u8]) -> bool {
-    (b.number == word(words, 0)) & same_box(b.area, irect(from(words, 1)))
-}
-
-fn got(case: &[u8], px: &[u32]) -> Pixel {
-    let x = int(case, 1);
-    let y = int(case, 2);
-    state(from(case, 8)).get(px, x, y)
-}
-
-// Whether the calls that return a pixel or a box answered as stored.
-fn asked(case: &[u8], px: &[u32]) -> bool {
-    let words = from(case, 79);
-    match word(case, 0) {
-        7 => same_pixel(got(case, px), words),
-        8 => same_boxed(state(from(case, 8)).bounds(), words),
-        _ => same_boxed(state(from(case, 8)).clip(), words),
-    }
+// Whether a call that returns a state answered as stored: the number, four zeros, and, past the base and step of the pixels, the state.
+fn same_done(d: Done, case: &[u8]) -> bool {
+    let none = same_box(IRect::ZERO, irect(from(case, 80)));
+    (d.number == word(case, 79)) & none & same_state(d.canvas, state(from(case, 86)))
 }
 
 // Whether the stored state is the given one.
@@ -138,11 +80,69 @@ fn kept(case: &[u8]) -> bool {
     same_state(state(from(case, 8)), state(from(case, 86)))
 }
 
+fn same_boxed(b: Boxed, case: &[u8]) -> bool {
+    (b.number == word(case, 79)) & same_box(b.area, irect(from(case, 80))) & kept(case)
+}
+
+fn same_pixel(p: Pixel, case: &[u8]) -> bool {
+    let said = (p.number == word(case, 79)) & (p.value == word(case, 80));
+    said & (word(case, 81) == 0) & (word(case, 82) == 0) & (word(case, 83) == 0)
+}
+
+fn made(case: &[u8], px: &mut [u32]) -> bool {
+    same_done(Canvas::new(int(case, 1), int(case, 2), px), case)
+}
+
+fn resized(case: &[u8], px: &mut [u32]) -> bool {
+    let w = int(case, 1);
+    let h = int(case, 2);
+    same_done(state(from(case, 8)).resize(w, h, px), case)
+}
+
+fn pushed(case: &[u8]) -> bool {
+    let r = rect(from(case, 1));
+    same_done(state(from(case, 8)).push_clip(r), case)
+}
+
+fn pushed_box(case: &[u8]) -> bool {
+    let b = irect(from(case, 1));
+    same_done(state(from(case, 8)).push_clip_i(b), case)
+}
+
+fn popped(case: &[u8]) -> bool {
+    same_done(state(from(case, 8)).pop_clip(), case)
+}
+
+fn cleared(case: &[u8], px: &mut [u32]) -> bool {
+    let ink = color_of(word(case, 1));
+    same_done(state(from(case, 8)).clear(px, ink), case)
+}
+
+fn got(case: &[u8], px: &[u32]) -> bool {
+    let x = int(case, 1);
+    let y = int(case, 2);
+    same_pixel(state(from(case, 8)).get(px, x, y), case) & kept(case)
+}
+
+fn bounded(case: &[u8]) -> bool {
+    same_boxed(state(from(case, 8)).bounds(), case)
+}
+
+fn clipped(case: &[u8]) -> bool {
+    same_boxed(state(from(case, 8)).clip(), case)
+}
+
 // Whether the call of a case answers as stored.
 pub(crate) fn said(case: &[u8], px: &mut [u32]) -> bool {
-    if 7 <= word(case, 0) {
-        asked(case, px) & kept(case)
-    } else {
-        same_done(changed(case, px), from(case, 79))
+    match word(case, 0) {
+        1 => made(case, px),
+        2 => resized(case, px),
+        3 => pushed(case),
+        4 => pushed_box(case),
+        5 => popped(case),
+        6 => cleared(case, px),
+        7 => got(case, px),
+        8 => bounded(case),
+        _ => clipped(case),
     }
 }

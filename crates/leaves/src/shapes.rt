@@ -36,68 +36,89 @@ fn place(case: &[u8]) -> Rect {
     rect(from(case, 17))
 }
 
-fn lined(case: &[u8], px: &mut [u32]) -> Done {
+// The number of a call, or 99 where it does not leave the state as it was.
+fn answer(d: Done, case: &[u8]) -> u32 {
+    if same_state(d.canvas, canvas(case)) {
+        d.number
+    } else {
+        99
+    }
+}
+
+fn lined(case: &[u8], px: &mut [u32]) -> u32 {
     let width = float(case, 15);
     let a = point(from(case, 17));
     let b = point(from(case, 19));
     let ink = ink(case);
-    line::line(canvas(case), px, a, b, width, ink)
+    answer(line::line(canvas(case), px, a, b, width, ink), case)
 }
 
-fn outlined(case: &[u8], px: &mut [u32]) -> Done {
+fn outlined(case: &[u8], px: &mut [u32]) -> u32 {
     let r = float(case, 14);
     let width = float(case, 15);
     let ink = ink(case);
     let at = place(case);
-    stroke::stroke_rrect(canvas(case), px, at, r, width, ink)
+    answer(
+        stroke::stroke_rrect(canvas(case), px, at, r, width, ink),
+        case,
+    )
 }
 
-fn ringed(case: &[u8], px: &mut [u32]) -> Done {
+fn ringed(case: &[u8], px: &mut [u32]) -> u32 {
     let r = float(case, 14);
     let width = float(case, 15);
     let c = point(from(case, 17));
     let ink = ink(case);
-    stroke::ring(canvas(case), px, c.x, c.y, r, width, ink)
+    answer(
+        stroke::ring(canvas(case), px, c.x, c.y, r, width, ink),
+        case,
+    )
 }
 
-fn shadowed(case: &[u8], px: &mut [u32]) -> Done {
+fn shadowed(case: &[u8], px: &mut [u32]) -> u32 {
     let skip = word(case, 7) == 1;
     let r = float(case, 14);
     let blur = float(case, 15);
     let ink = ink(case);
     let at = place(case);
-    shadow::shadow_rrect(canvas(case), px, at, r, blur, ink, skip)
+    answer(
+        shadow::shadow_rrect(canvas(case), px, at, r, blur, ink, skip),
+        case,
+    )
 }
 
-fn rounded(case: &[u8], px: &mut [u32]) -> Done {
+fn rounded(case: &[u8], px: &mut [u32]) -> u32 {
     let r = float(case, 14);
     let at = place(case);
     let paint = brush(case);
-    fill::fill_rrect(canvas(case), px, at, r, paint)
+    answer(fill::fill_rrect(canvas(case), px, at, r, paint), case)
 }
 
-fn rectangle(case: &[u8], px: &mut [u32]) -> Done {
+fn rectangle(case: &[u8], px: &mut [u32]) -> u32 {
     let at = place(case);
     let paint = brush(case);
-    fill::fill_rect(canvas(case), px, at, paint)
+    answer(fill::fill_rect(canvas(case), px, at, paint), case)
 }
 
-fn circle(case: &[u8], px: &mut [u32]) -> Done {
+fn circle(case: &[u8], px: &mut [u32]) -> u32 {
     let r = float(case, 14);
     let c = point(from(case, 17));
     let paint = brush(case);
-    fill::fill_circle(canvas(case), px, c.x, c.y, r, paint)
+    answer(
+        fill::fill_circle(canvas(case), px, c.x, c.y, r, paint),
+        case,
+    )
 }
 
-fn polyline(case: &[u8], px: &mut [u32], pts: &[f32]) -> Done {
+fn polyline(case: &[u8], px: &mut [u32], pts: &[f32]) -> u32 {
     let width = float(case, 15);
     let ink = ink(case);
-    line::polyline(canvas(case), px, pts, width, ink)
+    answer(line::polyline(canvas(case), px, pts, width, ink), case)
 }
 
-fn polygon(case: &[u8], px: &mut [u32], pts: &[f32], scratch: &mut [f32]) -> Done {
+fn polygon(case: &[u8], px: &mut [u32], pts: &[f32], scratch: &mut [f32]) -> u32 {
     let paint = brush(case);
-    poly::fill_poly(canvas(case), px, pts, paint, scratch)
+    answer(poly::fill_poly(canvas(case), px, pts, paint, scratch), case)
 }
 
 // The 130 floats of the first words.
@@ -113,7 +134,7 @@ fn points(words: &[u8]) -> [f32; 130]
     out
 }
 
-fn joined(case: &[u8], px: &mut [u32], scratch: &mut [f32]) -> Done {
+fn joined(case: &[u8], px: &mut [u32], scratch: &mut [f32]) -> u32 {
     let n = least(word(case, 16) as usize, 130);
     let space = points(from(case, 17));
     if word(case, 0) == 2 {
@@ -124,7 +145,7 @@ fn joined(case: &[u8], px: &mut [u32], scratch: &mut [f32]) -> Done {
 }
 
 // The shapes that go through no list of points.
-fn placed(case: &[u8], px: &mut [u32]) -> Done {
+fn placed(case: &[u8], px: &mut [u32]) -> u32 {
     match word(case, 0) {
         1 => lined(case, px),
         3 => outlined(case, px),
@@ -136,21 +157,12 @@ fn placed(case: &[u8], px: &mut [u32]) -> Done {
     }
 }
 
-// The number of a call, or 99 where it does not leave the state as it was.
-fn answer(d: Done, case: &[u8]) -> u32 {
-    if same_state(d.canvas, canvas(case)) {
-        d.number
-    } else {
-        99
-    }
-}
-
 // Draws the shape of a case's words; its number, or 99 where the state is not left as it was.
 pub fn shape(case: &[u8], px: &mut [u32], scratch: &mut [f32]) -> u32 {
     let f = word(case, 0);
     if (f == 2) | (f == 8) {
-        answer(joined(case, px, scratch), case)
+        joined(case, px, scratch)
     } else {
-        answer(placed(case, px), case)
+        placed(case, px)
     }
 }

@@ -1,7 +1,7 @@
 -- `slices::blend` meets its contract. After i turns the slice is `turned` up to i. Assumes nothing.
 use mathlib.Core.Path.{refl, ap, _∙_}
 use Prim.Native.Nat.{ℕ, _-_}
-use borrow.Author.Needs.{needs}
+use native.Mathlib.Omega.{arith}
 use Rattle.color.specs.Inks.{blended}
 use Rattle.slices.proofs.Turned.{Turning, begin, again, here, done}
 use Rattle.slices.proofs.blend.Statement.{statement}
@@ -20,25 +20,25 @@ loop-holds : tie.Need-loop-holds Inv-loop μ-loop
 loop-holds c = begin _ _ _ _ refl refl
 
 mul-over : tie.Need-mul-over Inv-loop μ-loop
-mul-over c = search needs
+mul-over c = omega arith
 
 slice-read-over : tie.Need-slice-read-over Inv-loop μ-loop
-slice-read-over c = search needs
+slice-read-over c = omega arith
 
 over-requires : tie.Need-over-requires Inv-loop μ-loop
-over-requires c κs = search needs
+over-requires c κs = tt
 
 mul-px : tie.Need-mul-px Inv-loop μ-loop
-mul-px c = search needs
+mul-px c = omega arith
 
 slice-write-px : tie.Need-slice-write-px Inv-loop μ-loop
-slice-write-px c = search needs
+slice-write-px c = omega arith
 
 add-i : tie.Need-add-i Inv-loop μ-loop
-add-i c = search needs
+add-i c = omega arith
 
 loop-less : tie.Need-loop-less Inv-loop μ-loop
-loop-less c = search needs
+loop-less c = omega arith
 
 loop-again : tie.Need-loop-again Inv-loop μ-loop
 loop-again c =
@@ -47,7 +47,7 @@ loop-again c =
     again _ _ t (c .before .before .loop-test .taken) (c .over .ensures ∙ ap (ink (v .r) (v .g) (v .b) (v .a)) (here _ _ t))
 
 same-length : tie.Need-same-length Inv-loop μ-loop
-same-length c = search needs
+same-length c = omega arith
 
 returns : tie.Need-returns Inv-loop μ-loop
 returns c = done _ (c .before .loop .inv) (c .loop-test .left)

@@ -1,7 +1,7 @@
 -- `slices::ceil` meets its contract. After i turns the slice is `turned` up to i. Assumes nothing.
 use mathlib.Core.Path.{refl, ap, _∙_}
 use Prim.Native.Nat.{_-_}
-use borrow.Author.Needs.{needs}
+use native.Mathlib.Omega.{arith}
 use Rattle.mathf.specs.Whole.{ceilOf}
 use Rattle.slices.proofs.Turned.{Turning, begin, again, here, done}
 use Rattle.slices.proofs.ceil.Statement.{statement}
@@ -17,31 +17,31 @@ loop-holds : tie.Need-loop-holds Inv-loop μ-loop
 loop-holds c = begin ceilOf _ _ _ refl refl
 
 mul-ceil : tie.Need-mul-ceil Inv-loop μ-loop
-mul-ceil c = search needs
+mul-ceil c = omega arith
 
 slice-read-ceil : tie.Need-slice-read-ceil Inv-loop μ-loop
-slice-read-ceil c = search needs
+slice-read-ceil c = omega arith
 
 ceil-requires : tie.Need-ceil-requires Inv-loop μ-loop
-ceil-requires c κs = search needs
+ceil-requires c κs = tt
 
 mul-xs : tie.Need-mul-xs Inv-loop μ-loop
-mul-xs c = search needs
+mul-xs c = omega arith
 
 slice-write-xs : tie.Need-slice-write-xs Inv-loop μ-loop
-slice-write-xs c = search needs
+slice-write-xs c = omega arith
 
 add-i : tie.Need-add-i Inv-loop μ-loop
-add-i c = search needs
+add-i c = omega arith
 
 loop-less : tie.Need-loop-less Inv-loop μ-loop
-loop-less c = search needs
+loop-less c = omega arith
 
 loop-again : tie.Need-loop-again Inv-loop μ-loop
 loop-again c = let t = c .before .before .before .loop .inv in again ceilOf _ t (c .before .before .loop-test .taken) (c .ceil .ensures ∙ ap ceilOf (here ceilOf _ t))
 
 same-length : tie.Need-same-length Inv-loop μ-loop
-same-length c = search needs
+same-length c = omega arith
 
 returns : tie.Need-returns Inv-loop μ-loop
 returns c = done ceilOf (c .before .loop .inv) (c .loop-test .left)

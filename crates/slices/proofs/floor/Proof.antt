@@ -1,7 +1,7 @@
 -- `slices::floor` meets its contract. After i turns the slice is `turned` up to i. Assumes nothing.
 use mathlib.Core.Path.{refl, ap, _∙_}
 use Prim.Native.Nat.{_-_}
-use borrow.Author.Needs.{needs}
+use native.Mathlib.Omega.{arith}
 use Rattle.mathf.specs.Whole.{floorOf}
 use Rattle.slices.proofs.Turned.{Turning, begin, again, here, done}
 use Rattle.slices.proofs.floor.Statement.{statement}
@@ -17,31 +17,31 @@ loop-holds : tie.Need-loop-holds Inv-loop μ-loop
 loop-holds c = begin floorOf _ _ _ refl refl
 
 mul-floor : tie.Need-mul-floor Inv-loop μ-loop
-mul-floor c = search needs
+mul-floor c = omega arith
 
 slice-read-floor : tie.Need-slice-read-floor Inv-loop μ-loop
-slice-read-floor c = search needs
+slice-read-floor c = omega arith
 
 floor-requires : tie.Need-floor-requires Inv-loop μ-loop
-floor-requires c κs = search needs
+floor-requires c κs = tt
 
 mul-xs : tie.Need-mul-xs Inv-loop μ-loop
-mul-xs c = search needs
+mul-xs c = omega arith
 
 slice-write-xs : tie.Need-slice-write-xs Inv-loop μ-loop
-slice-write-xs c = search needs
+slice-write-xs c = omega arith
 
 add-i : tie.Need-add-i Inv-loop μ-loop
-add-i c = search needs
+add-i c = omega arith
 
 loop-less : tie.Need-loop-less Inv-loop μ-loop
-loop-less c = search needs
+loop-less c = omega arith
 
 loop-again : tie.Need-loop-again Inv-loop μ-loop
 loop-again c = let t = c .before .before .before .loop .inv in again floorOf _ t (c .before .before .loop-test .taken) (c .floor .ensures ∙ ap floorOf (here floorOf _ t))
 
 same-length : tie.Need-same-length Inv-loop μ-loop
-same-length c = search needs
+same-length c = omega arith
 
 returns : tie.Need-returns Inv-loop μ-loop
 returns c = done floorOf (c .before .loop .inv) (c .loop-test .left)

@@ -2,7 +2,7 @@
 use mathlib.Core.Path.{refl}
 use Prim.Native.Nat.{_-_}
 use Rattle.mathf.specs.Convert.{toUsize}
-use borrow.Author.Needs.{needs}
+use native.Mathlib.Omega.{arith}
 use Rattle.slices.proofs.Turned.{Turning, begin, again, done-each, none-each}
 use Rattle.slices.proofs.to_usize.Statement.{statement}
 use Rattle.slices.proofs.to_usize.Tie as tie
@@ -17,31 +17,31 @@ loop-holds : tie.Need-loop-holds Inv-loop μ-loop
 loop-holds c = begin toUsize _ _ _ refl (c .if1 .taken)
 
 mul-to-usize : tie.Need-mul-to-usize Inv-loop μ-loop
-mul-to-usize c = search needs
+mul-to-usize c = omega arith
 
 shared-slice-read-to-usize : tie.Need-shared-slice-read-to-usize Inv-loop μ-loop
-shared-slice-read-to-usize c = search needs
+shared-slice-read-to-usize c = omega arith
 
 to-usize-requires : tie.Need-to-usize-requires Inv-loop μ-loop
-to-usize-requires c κs = search needs
+to-usize-requires c κs = tt
 
 mul-out : tie.Need-mul-out Inv-loop μ-loop
-mul-out c = search needs
+mul-out c = omega arith
 
 slice-write-out : tie.Need-slice-write-out Inv-loop μ-loop
-slice-write-out c = search needs
+slice-write-out c = omega arith
 
 add-i : tie.Need-add-i Inv-loop μ-loop
-add-i c = search needs
+add-i c = omega arith
 
 loop-less : tie.Need-loop-less Inv-loop μ-loop
-loop-less c = search needs
+loop-less c = omega arith
 
 loop-again : tie.Need-loop-again Inv-loop μ-loop
 loop-again c = again toUsize _ (c .before .before .before .loop .inv) (c .before .before .loop-test .taken) (c .to-usize .ensures)
 
 same-length : tie.Need-same-length Inv-loop μ-loop
-same-length c = search needs
+same-length c = omega arith
 
 returns : tie.Need-returns Inv-loop μ-loop
 returns c = done-each toUsize (c .before .loop .inv) (c .loop-test .left)
