@@ -1,8 +1,11 @@
-// What the proved functions of mathf and color answer.
-use crate::word::bits;
+// What the proved functions of mathf and color answer. A case has the function's number, its inputs, and the answer's low and high word.
+use crate::word::float;
 use crate::word::float_of;
+use crate::word::int;
+use crate::word::joined;
 use crate::word::pair;
 use crate::word::pattern;
+use crate::word::word;
 use color::Color;
 
 fn mathf_float(f: u32, a: f32, b: f32, c: f32) -> f32 {
@@ -20,14 +23,23 @@ fn mathf_float(f: u32, a: f32, b: f32, c: f32) -> f32 {
     }
 }
 
-pub fn mathf(f: u32, a: f32, b: f32, c: f32) -> u64 {
+fn mathf_answer(f: u32, a: f32, b: f32, c: f32) -> u64 {
     match f {
         4 => mathf::to_u8(a) as u64,
         5 => mathf::to_u32(a) as u64,
         6 => mathf::to_usize(a) as u64,
-        7 => bits(mathf::to_i32(a)) as u64,
         _ => pattern(mathf_float(f, a, b, c)) as u64,
     }
+}
+
+// Three floats.
+pub(crate) fn mathf(case: &[u8]) -> bool {
+    let f = word(case, 0);
+    let a = float(case, 1);
+    if f == 7 {
+        return (mathf::to_i32(a) == int(case, 4)) & (word(case, 5) == 0);
+    }
+    mathf_answer(f, a, float(case, 2), float(case, 3)) == pair(word(case, 4), word(case, 5))
 }
 
 // A colour is stored as the bytes red, green, blue, alpha of a word, the lowest first.
@@ -41,7 +53,7 @@ pub fn color_of(w: u32) -> Color {
 }
 
 pub(crate) fn color_word(c: Color) -> u32 {
-    c.r as u32 + 256 * (c.g as u32) + 65536 * (c.b as u32) + 16777216 * (c.a as u32)
+    joined(c.r, c.g, c.b, c.a)
 }
 
 fn color_color(f: u32, a: u32, b: u32, c: u32) -> Color {
@@ -63,7 +75,7 @@ fn color_blend(dst: u32, r: u32, g: u32, b: u32, a: u32) -> u64 {
 }
 
 // The low word of an answer is a pixel, a colour or a float's pattern, the high word a refusal's number.
-pub fn color(f: u32, a: u32, b: u32, c: u32, d: u32, e: u32) -> u64 {
+fn color_answer(f: u32, a: u32, b: u32, c: u32, d: u32, e: u32) -> u64 {
     match f {
         1 => color_blend(a, b, c, d, e),
         2 => color::blend_c(a, color_of(b), c) as u64,
@@ -72,4 +84,17 @@ pub fn color(f: u32, a: u32, b: u32, c: u32, d: u32, e: u32) -> u64 {
         13 => color::mix_pix(a, b, c) as u64,
         _ => color_word(color_color(f, a, b, c)) as u64,
     }
+}
+
+fn color_result(case: &[u8]) -> u64 {
+    let a = word(case, 1);
+    let b = word(case, 2);
+    let c = word(case, 3);
+    let d = word(case, 4);
+    color_answer(word(case, 0), a, b, c, d, word(case, 5))
+}
+
+// Five words.
+pub(crate) fn color(case: &[u8]) -> bool {
+    color_result(case) == pair(word(case, 6), word(case, 7))
 }

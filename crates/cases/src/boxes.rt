@@ -1,65 +1,74 @@
-// What the proved functions of geom answer: four words, those past the answer 0.
-use crate::word::bits;
+// What the proved functions of geom answer: a rectangle or a box. A number is a rectangle's x, a flag a box's x0, beside zeros.
+use crate::word::float;
+use crate::word::from;
+use crate::word::int;
 use crate::word::pattern;
+use crate::word::word;
 use geom::IRect;
 use geom::Rect;
 
-pub struct Four {
-    pub a: u32,
-    pub b: u32,
-    pub c: u32,
-    pub d: u32,
+// The rectangle of the first four words.
+pub fn rect(words: &[u8]) -> Rect {
+    Rect::new(
+        float(words, 0),
+        float(words, 1),
+        float(words, 2),
+        float(words, 3),
+    )
 }
 
-fn one(a: u32) -> Four {
-    Four {
-        a,
-        b: 0,
-        c: 0,
-        d: 0,
-    }
+// The box of the first four words.
+pub fn irect(words: &[u8]) -> IRect {
+    IRect::new(int(words, 0), int(words, 1), int(words, 2), int(words, 3))
 }
 
-fn flag(t: bool) -> Four {
-    one(if t { 1 } else { 0 })
+pub fn same_box(a: IRect, b: IRect) -> bool {
+    (a.x0 == b.x0) & (a.y0 == b.y0) & (a.x1 == b.x1) & (a.y1 == b.y1)
 }
 
-fn of_rect(r: Rect) -> Four {
-    Four {
-        a: pattern(r.x),
-        b: pattern(r.y),
-        c: pattern(r.w),
-        d: pattern(r.h),
-    }
+// Whether the first four words are a rectangle's.
+fn same_rect(r: Rect, words: &[u8]) -> bool {
+    let corner = (pattern(r.x) == word(words, 0)) & (pattern(r.y) == word(words, 1));
+    corner & (pattern(r.w) == word(words, 2)) & (pattern(r.h) == word(words, 3))
 }
 
-fn of_box(b: IRect) -> Four {
-    Four {
-        a: bits(b.x0),
-        b: bits(b.y0),
-        c: bits(b.x1),
-        d: bits(b.y1),
-    }
+fn number(x: f32) -> Rect {
+    Rect::new(x, 0.0, 0.0, 0.0)
 }
 
-pub fn rect(f: u32, r: Rect, o: Rect) -> Four {
+fn flag(t: bool) -> IRect {
+    IRect::new(if t { 1 } else { 0 }, 0, 0, 0)
+}
+
+fn rect_of(f: u32, r: Rect, o: Rect) -> Rect {
     match f {
-        1 => one(pattern(r.right())),
-        2 => one(pattern(r.bottom())),
-        3 => one(pattern(r.cx())),
-        4 => one(pattern(r.cy())),
-        5 => of_rect(r.inset(o.x)),
-        6 => of_rect(r.offset(o.x, o.y)),
-        7 => of_rect(r.intersect(o)),
-        8 => of_rect(r.union(o)),
-        9 => flag(r.is_empty()),
-        _ => of_box(IRect::from_rect_outer(r)),
+        1 => number(r.right()),
+        2 => number(r.bottom()),
+        3 => number(r.cx()),
+        4 => number(r.cy()),
+        5 => r.inset(o.x),
+        6 => r.offset(o.x, o.y),
+        7 => r.intersect(o),
+        _ => r.union(o),
     }
 }
 
-pub fn irect(f: u32, r: IRect, o: IRect) -> Four {
+fn box_of(f: u32, words: &[u8]) -> IRect {
     match f {
-        11 => of_box(r.intersect(o)),
-        _ => flag(r.is_empty()),
+        9 => flag(rect(words).is_empty()),
+        10 => IRect::from_rect_outer(rect(words)),
+        11 => irect(words).intersect(irect(from(words, 4))),
+        _ => flag(irect(words).is_empty()),
     }
+}
+
+// A case: the function, two rectangles or two boxes, and the answer's four words.
+pub(crate) fn agrees(case: &[u8]) -> bool {
+    let f = word(case, 0);
+    let words = from(case, 1);
+    let answer = from(case, 9);
+    if f <= 8 {
+        return same_rect(rect_of(f, rect(words), rect(from(words, 4))), answer);
+    }
+    same_box(box_of(f, words), irect(answer))
 }

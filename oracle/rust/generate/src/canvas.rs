@@ -43,5 +43,5 @@ pub fn stored() -> Stored {
     while cases.len() < 630 {
         cases.push(walk.step());
     }
-    Stored { first: 1, names: &NAMES, width: WIDTH, cases }
+    Stored { functions: 1..=NAMES.len() as u32, width: WIDTH, cases }
 }

@@ -117,5 +117,5 @@ pub fn stored() -> Stored {
     blends(&mut cases, &mut random);
     mixes(&mut cases, &mut random);
     hues(&mut cases, &mut random);
-    Stored { first: 1, names: &NAMES, width: 8, cases: cases.0 }
+    Stored { functions: 1..=NAMES.len() as u32, width: 8, cases: cases.0 }
 }

@@ -55,5 +55,5 @@ pub fn stored() -> Stored {
             add(f, core::array::from_fn(|_| if f < BOXES { float(&mut random) } else { integer(&mut random) }));
         }
     }
-    Stored { first: 1, names: &NAMES, width: 13, cases }
+    Stored { functions: 1..=NAMES.len() as u32, width: 13, cases }
 }

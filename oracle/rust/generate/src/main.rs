@@ -1,7 +1,8 @@
-//! Writes what the replay programs read and must print: crates/replay_*/stdin and stdout below the folder given. What belongs to a
-//! crate that is not there yet is written below the second folder. Before it writes, it holds the table of a shadow's fractions to the Rust.
+//! Writes what the program `replay_stored` reads and must print, below its folder data and in its file stdout, and the sheets of oracle/stored.
+//! Before it writes, it holds the table of a shadow's fractions to the Rust.
 use std::{
-    env, fs,
+    env, fs, iter,
+    ops::RangeInclusive,
     path::{Path, PathBuf},
 };
 
@@ -16,54 +17,61 @@ mod paintsheet;
 mod shape;
 mod sheet;
 
-/// Cases of one area: each is a function's number, counted from `first`, its inputs and the Rust's answer.
+/// Cases of one area: each is a function's number, its inputs and the Rust's answer.
 struct Stored {
-    first: u32,
-    names: &'static [&'static str],
+    functions: RangeInclusive<u32>,
     width: usize,
     cases: Vec<Vec<u32>>,
 }
 
 impl Stored {
-    fn write(&self, folder: &Path) {
-        let mut words = vec![self.cases.len() as u32];
-        for case in &self.cases {
-            assert_eq!(case.len(), self.width);
-            words.extend(case);
+    fn bytes(&self) -> Vec<u8> {
+        assert!(self.cases.iter().all(|case| case.len() == self.width));
+        let words = iter::once(self.cases.len() as u32).chain(self.cases.iter().flatten().copied());
+        words.flat_map(u32::to_le_bytes).collect()
+    }
+
+    /// How many cases there are of each function.
+    fn counts(&self) -> Vec<(u32, usize)> {
+        let of = |f: u32| self.cases.iter().filter(|case| case[0] == f).count();
+        self.functions.clone().map(|f| (f, of(f))).collect()
+    }
+}
+
+/// What the program prints.
+#[derive(Default)]
+struct Printed(String);
+
+impl Printed {
+    /// Writes the file of an area, and adds its lines: one for each function, and one for all cases.
+    fn area(&mut self, folder: &Path, name: &str, bytes: &[u8], counts: &[(u32, usize)], all: usize) {
+        for (f, ran) in counts {
+            self.0 += &format!("{name} {f} {ran} cases, 0 differ\n");
         }
-        let bytes: Vec<u8> = words.iter().flat_map(|w| w.to_le_bytes()).collect();
-        let mut text = String::new();
-        for (f, name) in self.names.iter().enumerate() {
-            let ran = self.cases.iter().filter(|case| case[0] == f as u32 + self.first).count();
-            text += &format!("{name} {ran} cases, 0 differ\n");
-        }
-        text += &format!("total {} cases, 0 differ\n", self.cases.len());
-        fs::write(folder.join("stdin"), &bytes).unwrap();
-        fs::write(folder.join("stdout"), text).unwrap();
-        println!("{}: {} cases, {} bytes", folder.display(), self.cases.len(), bytes.len());
+        self.0 += &format!("{name} {all} cases, 0 differ\n");
+        fs::write(folder.join("data").join(name), bytes).unwrap();
+        println!("{name}: {all} cases, {} bytes", bytes.len());
+    }
+
+    fn stored(&mut self, folder: &Path, name: &str, stored: Stored) {
+        self.area(folder, name, &stored.bytes(), &stored.counts(), stored.cases.len());
     }
 }
 
 fn main() {
-    let given = |i: usize| PathBuf::from(env::args().nth(i).expect("the folder crates of the repository, and that of what has no crate yet"));
-    let folder = |name: &str| {
-        let own = given(1).join(name);
-        if own.exists() {
-            return own;
-        }
-        let other = given(2).join(name);
-        fs::create_dir_all(&other).unwrap();
-        other
-    };
+    let given = |i: usize| PathBuf::from(env::args().nth(i).expect("the folder crates of the repository, and that of the stored sheets"));
     falloff::hold(&given(1).join("falloff/src/lib.rt"));
-    mathf::stored().write(&folder("replay_mathf"));
-    color::stored().write(&folder("replay_color"));
-    geom::stored().write(&folder("replay_geom"));
-    canvas::stored().write(&folder("replay_canvas"));
-    paint::stored().write(&folder("replay_paint"));
-    shape::stored().write(&folder("replay_shapes"));
-    sheet::paintings().write(&folder("replay_sheets"));
-    sheet::patches().write(&folder("replay_patches"));
-    orders::write(&folder("replay_orders"));
+    let folder = given(1).join("replay_stored");
+    let mut printed = Printed::default();
+    printed.stored(&folder, "mathf", mathf::stored());
+    printed.stored(&folder, "color", color::stored());
+    printed.stored(&folder, "geom", geom::stored());
+    printed.stored(&folder, "canvas", canvas::stored());
+    printed.stored(&folder, "paint", paint::stored());
+    printed.stored(&folder, "shapes", shape::stored());
+    printed.stored(&folder, "sheets", sheet::paintings());
+    printed.stored(&folder, "patches", sheet::patches());
+    printed.area(&folder, "orders", &orders::bytes(), &orders::COUNTS, orders::SHEETS);
+    fs::write(folder.join("stdout"), printed.0).unwrap();
     paintsheet::write(&given(2).join("paintsheet"), &given(1).join("paintsheet"));
 }

@@ -172,5 +172,5 @@ pub fn stored() -> Stored {
     one_input(&mut cases, &mut random);
     two_inputs(&mut cases, &mut random);
     three_inputs(&mut cases, &mut random);
-    Stored { first: 1, names: &NAMES, width: 6, cases: cases.0 }
+    Stored { functions: 1..=NAMES.len() as u32, width: 6, cases: cases.0 }
 }

@@ -1,18 +1,13 @@
-//! The small clip orders: each sheet with its length and the pixels that the Rust paints, for the program `replay_orders`.
+//! The small clip orders: each sheet with its length and the pixels that the Rust paints.
 use sheets::{
     orders::{self, PAINTED, PIXELS},
     paint,
 };
-use std::{fs, path::Path};
 
-/// What the program counts, and of how many cases.
-const LINES: [(&str, usize); 5] = [
-    ("written", orders::COUNT),
-    ("just enough", orders::COUNT),
-    ("one byte short", orders::COUNT),
-    ("painted", orders::COUNT),
-    ("past the last", 4),
-];
+pub const SHEETS: usize = orders::COUNT;
+
+/// Written into a whole buffer, into one of just its length, into one of a byte less, painted, and four numbers past the last.
+pub const COUNTS: [(u32, usize); 5] = [(1, SHEETS), (2, SHEETS), (3, SHEETS), (4, SHEETS), (5, 4)];
 
 /// A sheet's length, its pixels and its bytes, which are whole words.
 fn case(sheet: &[u8]) -> Vec<u8> {
@@ -24,13 +19,11 @@ fn case(sheet: &[u8]) -> Vec<u8> {
     [words.into_iter().flat_map(u32::to_le_bytes).collect(), sheet.to_vec()].concat()
 }
 
-/// Writes stdin and stdout of the program.
-pub fn write(folder: &Path) {
+/// The count of the sheets, then the sheets.
+pub fn bytes() -> Vec<u8> {
     let sheets = orders::all();
-    let mut bytes = (sheets.len() as u32).to_le_bytes().to_vec();
+    assert_eq!(sheets.len(), SHEETS);
+    let mut bytes = (SHEETS as u32).to_le_bytes().to_vec();
     bytes.extend(sheets.iter().flat_map(|sheet| case(sheet)));
-    let text: String = LINES.iter().map(|(name, cases)| format!("{name} {cases} cases, 0 differ\n")).collect();
-    fs::write(folder.join("stdin"), &bytes).unwrap();
-    fs::write(folder.join("stdout"), text).unwrap();
-    println!("{}: {} sheets, {} bytes", folder.display(), sheets.len(), bytes.len());
+    bytes
 }

@@ -51,5 +51,5 @@ pub fn stored() -> Stored {
             add(f, words);
         }
     }
-    Stored { first: 1, names: &NAMES, width: 10, cases }
+    Stored { functions: 1..=NAMES.len() as u32, width: 10, cases }
 }

@@ -117,5 +117,5 @@ pub fn stored() -> Stored {
             assert!(cases[from..].iter().any(|case| case[WIDTH - 1] == number), "shape {f} has no case of {number}");
         }
     }
-    Stored { first: 1, names: &NAMES, width: WIDTH, cases }
+    Stored { functions: 1..=NAMES.len() as u32, width: WIDTH, cases }
 }

@@ -146,7 +146,7 @@ pub fn paintings() -> Stored {
         }
     }
     all_stand(&cases, &[1, 2, 3, 4, 5, 6, 7, 8, 9, 13], 4);
-    Stored { first: PAINT, names: &["paint"], width: WIDTH, cases }
+    Stored { functions: PAINT..=PAINT, width: WIDTH, cases }
 }
 
 /// Document 01's examples that fit, then lists of patches, each on the sheet that the one before left.
@@ -172,5 +172,5 @@ pub fn patches() -> Stored {
         }
     }
     all_stand(&cases, &[1, 2, 3, 4, 5, 6, 7, 8, 9, 10, 13], 2);
-    Stored { first: PATCH, names: &["patch", "patch_painted"], width: WIDTH, cases }
+    Stored { functions: PAINT..=AFTER, width: WIDTH, cases }
 }

@@ -1,2 +1,0 @@
--- The laws that the proofs of `leaves` cite. Assumes nothing.
-pub mod Turned

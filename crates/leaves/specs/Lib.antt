@@ -1,2 +1,0 @@
--- The definition that the contracts of `leaves` cite. Assumes nothing.
-pub mod Each

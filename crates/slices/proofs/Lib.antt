@@ -1,0 +1,2 @@
+-- The laws that the proofs of `slices` cite. Assumes nothing.
+pub mod Turned

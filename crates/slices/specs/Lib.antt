@@ -1,0 +1,2 @@
+-- The definition that the contracts of `slices` cite. Assumes nothing.
+pub mod Each
