@@ -71,10 +71,14 @@ fn past(k: usize) -> usize {
 
 // Whether sheet i is as stored. The kinds: 2, written into a buffer of just its length; 3, refused in one of a byte less, where a byte less than
 // none is a whole buffer; 4, written and painted; 5, the i-th number past the last, refused in a whole buffer and in none; any other, written
-// into a whole buffer.
+// into a whole buffer. A sheet of another length than its words say agrees with nothing.
 pub(crate) fn said(case: &[u8], kind: u32, i: u32) -> bool {
     let k = i as usize;
-    let sheet = upto(from(case, 17), word(case, 0));
+    let len = word(case, 0);
+    let sheet = upto(from(case, 17), len);
+    if sheet.len() != len as usize {
+        return false;
+    }
     match kind {
         2 => leaves(sheet.len(), k, 0, sheet),
         3 => leaves(std::num::wrapping_sub_usize(sheet.len(), 1), k, 19, b""),

@@ -1,6 +1,5 @@
 // Counting a function's stored cases and those that differ. The areas: 0 mathf, 1 color, 2 geom, 3 canvas calls, 4 paints, 5 shapes,
 // 6 sheets, 7 patches, 8 small clip orders.
-use crate::canvas;
 use crate::clip_orders;
 use crate::lent::as_stored;
 use crate::lent::fill;
@@ -10,6 +9,7 @@ use crate::lent::same_steps;
 use crate::lent::scratch;
 use crate::shapes;
 use crate::sheets;
+use cases::canvas;
 use cases::word::from;
 use cases::word::upto;
 use cases::word::word;

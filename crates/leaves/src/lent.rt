@@ -13,15 +13,11 @@ pub(crate) fn pixels() -> [u32; 2048]
     [0; 2048]
 }
 
-fn nan() -> f32 {
-    float_of(0x7fc0_0000)
-}
-
 pub(crate) fn scratch() -> [f32; 4096]
     ensures { λ r. ⌜ 4096 ≡ length r ⌝ }
 {
-    let x = nan();
-    [x; 4096]
+    let nan = float_of(0x7fc0_0000);
+    [nan; 4096]
 }
 
 pub(crate) fn least(a: usize, b: usize) -> usize

@@ -1,10 +1,10 @@
 // Shape calls: a case has the function, two sides, four words of clip, the paint's kind or `skip_inside`, four floats and two colours of a
 // paint, a radius, a width or blur, the count of coordinates, 12 of them, the count, base and step of the pixels, the words of scratch that
 // are left +0, 64 pixels, and the number. Coordinates past the 12 are the words that follow.
-use crate::canvas::framed;
-use crate::canvas::none_saved;
-use crate::canvas::same_state;
 use crate::lent::least;
+use cases::canvas::framed;
+use cases::canvas::none_saved;
+use cases::canvas::same_state;
 use cases::color_of;
 use cases::paint;
 use cases::point;

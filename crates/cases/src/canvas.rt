@@ -1,12 +1,12 @@
 // Canvas calls: a case has the call, four words of arguments, the count of pixels with their base and step, the state (71 words), then the
 // number, four words of answer, the base and step of the pixels left, and the state left.
-use cases::color_of;
-use cases::irect;
-use cases::rect;
-use cases::same_box;
-use cases::word::from;
-use cases::word::int;
-use cases::word::word;
+use crate::answer::color_of;
+use crate::boxes::irect;
+use crate::boxes::rect;
+use crate::boxes::same_box;
+use crate::word::from;
+use crate::word::int;
+use crate::word::word;
 use color::Pixel;
 use geom::IRect;
 use gfx::Boxed;
@@ -16,7 +16,7 @@ ghost use mathlib.Core.Path.{_≡_};
 ghost use lib.ListN.{length};
 
 // The canvas whose first six words are its sides and its clip.
-pub(crate) fn framed(words: &[u8], saved: [IRect; 16], depth: usize) -> Canvas {
+pub fn framed(words: &[u8], saved: [IRect; 16], depth: usize) -> Canvas {
     let w = int(words, 0);
     let h = int(words, 1);
     let clip = irect(from(words, 2));
@@ -29,7 +29,7 @@ pub(crate) fn framed(words: &[u8], saved: [IRect; 16], depth: usize) -> Canvas {
     }
 }
 
-pub(crate) fn none_saved() -> [IRect; 16]
+pub fn none_saved() -> [IRect; 16]
     ensures { λ r. ⌜ 16 ≡ length r ⌝ }
 {
     let zero = IRect::ZERO;
@@ -62,7 +62,7 @@ fn same_saved(a: [IRect; 16], b: [IRect; 16]) -> bool {
     same
 }
 
-pub(crate) fn same_state(a: Canvas, b: Canvas) -> bool {
+pub fn same_state(a: Canvas, b: Canvas) -> bool {
     let p = a.saved;
     let q = b.saved;
     let sides = (a.w == b.w) & (a.h == b.h) & (a.depth == b.depth);
@@ -133,7 +133,7 @@ fn clipped(case: &[u8]) -> bool {
 }
 
 // Whether the call of a case answers as stored.
-pub(crate) fn said(case: &[u8], px: &mut [u32]) -> bool {
+pub fn said(case: &[u8], px: &mut [u32]) -> bool {
     match word(case, 0) {
         1 => made(case, px),
         2 => resized(case, px),

@@ -1,10 +1,10 @@
--- `leaves::canvas::saved` is safe and ends. Assumes nothing.
+-- `cases::canvas::saved` is safe and ends. Assumes nothing.
 use mathlib.Core.Path.{_≡_}
 use Prim.Native.Nat.{_-_, _≤_}
 use lib.ListN.{length, length-set}
 use native.Mathlib.Omega.{arith}
-use Rattle.leaves.proofs.canvas.saved.Statement.{statement}
-use Rattle.leaves.proofs.canvas.saved.Tie as tie
+use Rattle.cases.proofs.canvas.saved.Statement.{statement}
+use Rattle.cases.proofs.canvas.saved.Tie as tie
 
 abbrev Inv-loop : tie.InvT-loop
 Inv-loop words out₀ place₀ i₀ out place i = (i ≤ 16) × (length out ≡ 16)

@@ -1,8 +1,8 @@
--- `leaves::canvas::same_saved` is safe and ends. Assumes nothing.
+-- `cases::canvas::same_saved` is safe and ends. Assumes nothing.
 use Prim.Native.Nat.{_-_, _≤_}
 use native.Mathlib.Omega.{arith}
-use Rattle.leaves.proofs.canvas.same_saved.Statement.{statement}
-use Rattle.leaves.proofs.canvas.same_saved.Tie as tie
+use Rattle.cases.proofs.canvas.same_saved.Statement.{statement}
+use Rattle.cases.proofs.canvas.same_saved.Tie as tie
 
 abbrev Inv-loop : tie.InvT-loop
 Inv-loop a b same₀ i₀ same i = i ≤ 16
