@@ -1,6 +1,6 @@
 // Words of 32 bits in bytes, the lowest byte first, and floats and signed numbers as words.
 ghost use mathlib.Core.Path.{_≡_};
-ghost use Prim.Native.Nat.{_+_, _*_};
+ghost use Prim.Native.Nat.{_+_, _*_, _≤_};
 ghost use lib.ListN.{take, drop};
 ghost use lib.Ieee.{binary32, ofBits};
 ghost use Rattle.cases.specs.Word.{joinedOf, wordAt};
@@ -46,6 +46,12 @@ pub fn upto(bytes: &[u8], n: u32) -> &[u8]
     } else {
         bytes
     }
+}
+
+pub fn least(a: usize, b: usize) -> usize
+    ensures { λ r. ⌜ r ≤ b ⌝ }
+{
+    if a < b { a } else { b }
 }
 
 // The number with a low and a high word.

@@ -1,9 +1,9 @@
 // Small clip orders: the call with a buffer of which every byte is known, and what it must answer and leave.
 // The file holds the number of sheets; each sheet then has its length in bytes, its 16 pixels and its bytes, which are whole words.
-use crate::lent::least;
 use crate::lent::same_words;
 use cases::same_box;
 use cases::word::from;
+use cases::word::least;
 use cases::word::upto;
 use cases::word::word;
 use geom::IRect;

@@ -3,14 +3,13 @@
 use crate::clip_orders;
 use crate::lent::as_stored;
 use crate::lent::fill;
-use crate::lent::least;
 use crate::lent::pixels;
 use crate::lent::same_steps;
 use crate::lent::scratch;
-use crate::shapes;
 use crate::sheets;
 use cases::canvas;
 use cases::word::from;
+use cases::word::least;
 use cases::word::upto;
 use cases::word::word;
 ghost use Prim.Native.Nat.{_≤_, _<_};
@@ -60,7 +59,7 @@ fn lent_scratch(area: u32, case: &[u8]) -> usize
 fn said(area: u32, case: &[u8], px: &mut [u32], scratch: &mut [f32]) -> bool {
     match area {
         3 => canvas::said(case, px),
-        5 => shapes::shape(case, px, scratch) == word(case, 97),
+        5 => shape_cases::shape(case, px, scratch) == word(case, 97),
         _ => sheets::said(case, px, scratch),
     }
 }

@@ -3,7 +3,6 @@ use cases::word::float_of;
 use cases::word::from;
 use cases::word::pattern;
 use cases::word::word;
-ghost use Prim.Native.Nat.{_≤_};
 ghost use mathlib.Core.Path.{_≡_};
 ghost use lib.ListN.{length};
 
@@ -18,12 +17,6 @@ pub(crate) fn scratch() -> [f32; 4096]
 {
     let nan = float_of(0x7fc0_0000);
     [nan; 4096]
-}
-
-pub(crate) fn least(a: usize, b: usize) -> usize
-    ensures { λ r. ⌜ r ≤ b ⌝ }
-{
-    if a < b { a } else { b }
 }
 
 // Pixels that run in equal steps: the base and the step are the first two words.

@@ -3,13 +3,12 @@
 mod clip_orders;
 mod counting;
 mod lent;
-mod shapes;
 mod sheets;
 
 pub use crate::counting::ALL;
 pub use crate::counting::Tally;
 pub use crate::counting::count;
-use crate::shapes::shape;
+use shape_cases::shape;
 ghost use mathlib.Core.Path.{_≡_};
 ghost use mathlib.Core.List.{map};
 ghost use Rattle.mathf.specs.Convert.{toU8, toU32, toUsize, toI32};

@@ -1,9 +1,9 @@
--- `leaves::shapes::joined` is safe: no more coordinates are lent than there are. Assumes nothing.
+-- `shape_cases::joined` is safe: no more coordinates are lent than there are. Assumes nothing.
 use mathlib.Core.Path.{sym}
 use native.Mathlib.Omega.{arith}
 use lib.Seq.{length-take-le}
-use Rattle.leaves.proofs.shapes.joined.Statement.{statement}
-use Rattle.leaves.proofs.shapes.joined.Tie as tie
+use Rattle.shape_cases.proofs.joined.Statement.{statement}
+use Rattle.shape_cases.proofs.joined.Tie as tie
 
 word-requires : tie.Need-word-requires
 word-requires c κs = tt

@@ -1,10 +1,10 @@
--- `leaves::shapes::points` is safe and ends, and gives 130 floats. Assumes nothing.
+-- `shape_cases::points` is safe and ends, and gives 130 floats. Assumes nothing.
 use mathlib.Core.Path.{_≡_}
 use Prim.Native.Nat.{_-_, _≤_}
 use lib.ListN.{length, length-set}
 use native.Mathlib.Omega.{arith}
-use Rattle.leaves.proofs.shapes.points.Statement.{statement}
-use Rattle.leaves.proofs.shapes.points.Tie as tie
+use Rattle.shape_cases.proofs.points.Statement.{statement}
+use Rattle.shape_cases.proofs.points.Tie as tie
 
 abbrev Inv-loop : tie.InvT-loop
 Inv-loop words out₀ place₀ i₀ out place i = (i ≤ 130) × (length out ≡ 130)

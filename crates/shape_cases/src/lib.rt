@@ -1,7 +1,6 @@
 // Shape calls: a case has the function, two sides, four words of clip, the paint's kind or `skip_inside`, four floats and two colours of a
 // paint, a radius, a width or blur, the count of coordinates, 12 of them, the count, base and step of the pixels, the words of scratch that
 // are left +0, 64 pixels, and the number. Coordinates past the 12 are the words that follow.
-use crate::lent::least;
 use cases::canvas::framed;
 use cases::canvas::none_saved;
 use cases::canvas::same_state;
@@ -11,6 +10,7 @@ use cases::point;
 use cases::rect;
 use cases::word::float;
 use cases::word::from;
+use cases::word::least;
 use cases::word::word;
 use color::Color;
 use geom::Rect;
