@@ -12,20 +12,27 @@ use paint::paint;
 ghost use mathlib.Core.Path.{_≡_};
 ghost use lib.ListN.{length};
 
-// The bytes of a buffer, more than any sheet has, and what each is before the call.
+// The bytes of a buffer: more than any sheet has.
 const ROOM: usize = 360;
 
-const MARK: u8 = 165;
+// The byte at place i of a buffer before the call.
+fn mark(i: usize) -> u8 {
+    (65 + i % 61) as u8
+}
 
 fn marked() -> [u8; ROOM]
     ensures { λ r. ⌜ 360 ≡ length r ⌝ }
 {
-    [MARK; ROOM]
+    let mut out = [0; ROOM];
+    for i in 0..ROOM {
+        out[i] = mark(i);
+    }
+    out
 }
 
 // The byte at place i after the call.
 fn left(sheet: &[u8], i: usize) -> u8 {
-    if i < sheet.len() { sheet[i] } else { MARK }
+    if i < sheet.len() { sheet[i] } else { mark(i) }
 }
 
 // Whether a buffer is a sheet, and past it what it was before.
