@@ -52,7 +52,7 @@ fn byte(px: &[u32], w: usize, i: usize) -> u8
 }
 
 // The text of a canvas of w columns.
-pub fn picture(px: &[u32], w: usize, out: &mut [u8])
+pub(crate) fn picture(px: &[u32], w: usize, out: &mut [u8])
     requires { ⌜ 0 < w ⌝ }
     requires { ⌜ length (now out) ≡ 9 * length (now px) ⌝ }
     ensures { λ _. ⌜ now (out .exit) ≡ pictureOf w (now (px .entry)) ⌝ }
