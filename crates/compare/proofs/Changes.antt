@@ -18,10 +18,10 @@ use Rattle.sheet.specs.Check.{countOf, bytesAt}
 use Rattle.redraw.specs.Drawing as drawing
 use Rattle.redraw.specs.Drawing.{push, pop, shape}
 use Rattle.redraw.specs.Sheet.{Change, other, shapes, withPair, bothShapes, change, few, reaches, Sheet, refuses, canvas, lent, tooMany, patchBy}
-use Rattle.items.specs.Items.{readFill, readStroke, readLine, readPoly, readShadow, readItem, itemOf}
+use Rattle.items.specs.Items.{readFill, readStroke, readLine, readPoly, readShadow, readChain, readItem, itemOf}
 use Rattle.items.specs.Format.{kind, format, drawnAs, itemIn, itemsFrom, sameItem}
 use Rattle.items.specs.declared.Item.{Item}
-use Rattle.items.specs.declared.Item.the-variants.{Push, Pop, Fill, Stroke, Line, Poly, Shadow, Unknown}
+use Rattle.items.specs.declared.Item.the-variants.{Push, Pop, Fill, Stroke, Line, Poly, Shadow, Chain, Unknown}
 use Rattle.compare.specs.declared.Difference.{Difference}
 use Rattle.compare.specs.Compare.{changeFrom, found, changeNumber, changeBox, told, changedBy, settled, isShape, sameAt}
 
@@ -39,15 +39,16 @@ pub a-shape : (b : List ℕ) → (kindAt b 0 ≡ 1 → ⊥) → (kindAt b 0 ≡ 
 unfolding readItem drawnAs isShape
 a-shape b p q =
     let is : ℕ → Bool = λ n. eqb (kindAt b 0) n in
-    rw (ne-eqb (kindAt b 0) 1 p, ne-eqb (kindAt b 0) 2 q) (go (is 3) (is 4) (is 5) (is 6) (is 7))
+    rw (ne-eqb (kindAt b 0) 1 p, ne-eqb (kindAt b 0) 2 q) (go (is 3) (is 4) (is 5) (is 6) (is 7) (is 8))
   where
-    go : (r s t u v : Bool) → true ≡ isShape (drawnAs b (cond r (readFill b 0) (cond s (readStroke b 0) (cond t (readLine b 0) (cond u (readPoly b 0) (cond v (readShadow b 0) Unknown))))))
-    go true s t u v = refl
-    go false true t u v = refl
-    go false false true u v = refl
-    go false false false true v = refl
-    go false false false false true = refl
-    go false false false false false = refl
+    go : (r s t u v w : Bool) → true ≡ isShape (drawnAs b (cond r (readFill b 0) (cond s (readStroke b 0) (cond t (readLine b 0) (cond u (readPoly b 0) (cond v (readShadow b 0) (cond w (readChain b 0) Unknown)))))))
+    go true s t u v w = refl
+    go false true t u v w = refl
+    go false false true u v w = refl
+    go false false false true v w = refl
+    go false false false false true w = refl
+    go false false false false false true = refl
+    go false false false false false false = refl
 
 shape-own : (b : List ℕ) (i : Item) → isShape (drawnAs b i) ≡ true → drawnAs b i ≡ shape b
 unfolding drawnAs isShape
@@ -58,6 +59,7 @@ shape-own b (Stroke rect r width color) e = refl
 shape-own b (Line p q width color) e = refl
 shape-own b (Poly paint count) e = refl
 shape-own b (Shadow rect r blur color skip) e = refl
+shape-own b (Chain width color count) e = refl
 shape-own b Unknown e = refl
 
 -- ---- what differences tell

@@ -1,4 +1,4 @@
--- Patches of a set (change request 2026-01), worked by the definitions: each side computes. Assumes nothing.
+-- Patches of a set (change request 2026-01) and with chains (2026-04), worked by the definitions: each side computes. Assumes nothing.
 use Prim.Native.Nat.{ℕ, zero, suc, _+_, _*_, _/_, _%_}
 use mathlib.Core.Path.{_≡_, refl}
 use mathlib.Core.List.{List, [], _∷_, _++_}
@@ -10,13 +10,16 @@ use Rattle.geom.specs.Int.{maxZ, minZ}
 use Rattle.geom.specs.Box.{boxOf, meet, empty, noBox, around, join, hull}
 use Rattle.geom.specs.declared.IRect.{IRect}
 use Rattle.geom.specs.Plane.{floatOk, noArea, outerOf}
+use Rattle.draw.specs.Parts.{reachAll}
 use Rattle.fill.specs.Fill.{fillReach}
+use Rattle.line.specs.Lines.{absOf, lineReach}
+use Rattle.line.specs.Polylines.{linesFrom}
 use Rattle.stroke.specs.Stroke.{strokeReach}
 use Rattle.sheet.specs.Bytes.{allAt}
 use Rattle.sheet.specs.Kinds.{layoutAt, lengthOk, pointsOk, paintBytesOk, bytesOk, paintFloatsOk, floatsOk, savedOk, itemNumber}
 use Rattle.sheet.specs.Check as checks
 use Rattle.sheet.specs.Check.{headerOk, pairsFrom, pairsOk, headNumber, numberAt, depthAt, sheetCheck}
-use Rattle.items.specs.Items.{readPaint, readItem}
+use Rattle.items.specs.Items.{readPaint, readItem, coordsFrom}
 use Rattle.items.specs.Format.{reachOf, needOf, drawnAs, itemsFrom, itemNeed, needs, sameBytes, sameBox, sameItem, reading, format}
 use Rattle.redraw.specs.declared.Answer.{Answer}
 use Rattle.compare.specs.Compare.{found, changeNumber}
@@ -112,3 +115,31 @@ limits = (refl, refl, refl, refl, refl)
 pub before-lengths : (l : List (List ℕ × List ℕ)) (s : Sheet (List ℕ)) (px words : ℕ) → length l ≡ 33 → patchBy format (shapes l) s px words ≡ refuses 14 0
 unfolding patchBy few tooMany
 before-lengths l s px words e = rw e
+
+-- a chain of n points with width -2, so that a line reaches its own columns and, of one that slopes, its own rows
+abbrev chain : ℕ → List ℕ → List ℕ
+chain n points = 8 ∷ 0 ∷ n ∷ 0 ∷ 0 ∷ 0 ∷ 0 ∷ 192 ∷ 0 ∷ 0 ∷ 0 ∷ 255 ∷ points
+
+-- one point; from (0, 0) to (1, 1), and on to (2, 0)
+abbrev start : List ℕ
+start = chain 1 (none ++ none)
+
+abbrev short : List ℕ
+short = chain 2 (none ++ none ++ one ++ one)
+
+abbrev long : List ℕ
+long = chain 3 (none ++ none ++ one ++ one ++ two ++ none)
+
+pub chains :
+    -- a chain begins, and grows; its last point goes again
+    (answered (start ∷ []) (short ∷ []) 4 ≡ accepted (boxOf (pos 0) (pos 0) (pos 1) (pos 1)))
+    × (answered (short ∷ []) (long ∷ []) 4 ≡ accepted (boxOf (pos 0) (pos 0) (pos 2) (pos 1)))
+    × (answered (long ∷ []) (start ∷ []) 4 ≡ accepted (boxOf (pos 0) (pos 0) (pos 2) (pos 1)))
+    -- a fill for a chain, and back; for one that has no reach
+    × (answered (short ∷ []) (fill two 0 ∷ []) 4 ≡ accepted (boxOf (pos 0) (pos 0) (pos 3) (pos 1)))
+    × (answered (fill two 0 ∷ []) (long ∷ []) 4 ≡ accepted (boxOf (pos 0) (pos 0) (pos 3) (pos 1)))
+    × (answered (start ∷ []) (fill two 0 ∷ []) 4 ≡ accepted (boxOf (pos 2) (pos 0) (pos 3) (pos 1)))
+    -- a push for a chain
+    × (answered (short ∷ []) (push one ∷ []) 4 ≡ refusal 10 0)
+unfolding copies pairsOf joined patching patchOf patchBy lent reading sheetCheck checks.itemsFrom numberAt depthAt headNumber headerOk pairsOk pairsFrom itemNumber savedOk floatsOk paintFloatsOk bytesOk paintBytesOk pointsOk lengthOk layoutAt allAt floatOk itemsFrom drawnAs readItem readPaint coordsFrom reachOf needOf itemNeed needs sameItem sameBytes sameBox sameHeader change bothShapes withPair few tooMany reaches canvas hull join around empty meet maxZ minZ noBox answer refusal reachAll linesFrom lineReach absOf fillReach noArea outerOf floorOf ceilOf ofBits round add sub mul ofInt lt le eq ne neg toSigned toUnsigned
+chains = (refl, refl, refl, refl, refl, refl, refl)

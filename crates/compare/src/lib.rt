@@ -1,7 +1,6 @@
 // How two sheets differ: what a patch needs to know of them. Every function here takes any bytes at all.
 use geom::IRect;
-use geom::max_i;
-use geom::min_i;
+use geom::join;
 use items::ground;
 use items::part_at;
 use items::reaches::reach;
@@ -71,30 +70,6 @@ fn both_shapes(old: &[u8], new: &[u8], k: u16) -> bool
     ensures { λ r. ⌜ r ≡ isShape (itemIn (bytesAt (now (old .entry)) k)) && isShape (itemIn (bytesAt (now (new .entry)) k)) ⌝ }
 {
     shape_at(old, k) & shape_at(new, k)
-}
-
-// The smallest box around two that are not empty.
-fn around(a: IRect, b: IRect) -> IRect
-    ensures { λ r. ⌜ r ≡ Box.around a b ⌝ }
-{
-    let x0 = min_i(a.x0, b.x0);
-    let y0 = min_i(a.y0, b.y0);
-    let x1 = max_i(a.x1, b.x1);
-    let y1 = max_i(a.y1, b.y1);
-    IRect { x0, y0, x1, y1 }
-}
-
-// The smallest box around two, an empty one counting for nothing.
-fn join(a: IRect, b: IRect) -> IRect
-    ensures { λ r. ⌜ r ≡ Box.join a b ⌝ }
-{
-    if a.is_empty() {
-        return b;
-    }
-    if b.is_empty() {
-        return a;
-    }
-    around(a, b)
 }
 
 // The canvas of a sheet.

@@ -4,3 +4,4 @@ pub mod Rows
 pub mod Loops
 pub mod Clips
 pub mod Held
+pub mod Parts

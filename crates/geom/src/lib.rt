@@ -4,6 +4,7 @@ ghost use mathlib.Core.Bool.{_&&_};
 ghost use Rattle.mathf.specs.Convert.{toI32};
 ghost use Rattle.mathf.specs.Whole.{floorOf, ceilOf};
 ghost use Rattle.geom.specs.Int.{up, maxZ, minZ};
+ghost use Rattle.geom.specs.Box as Box;
 ghost use Rattle.geom.specs.Box.{boxOf, meet, empty};
 ghost use Rattle.geom.specs.Plane.{ptOf, rectOf, rightOf, bottomOf, cxOf, cyOf, insetOf, offsetOf, intersectOf, unionOf, noArea, outerOf, floatOk, ptOk, rectOk};
 
@@ -214,4 +215,28 @@ impl IRect {
         let y1 = ceil_i(r.bottom());
         IRect { x0, y0, x1, y1 }
     }
+}
+
+// The smallest box around two that are not empty.
+fn around(a: IRect, b: IRect) -> IRect
+    ensures { λ r. ⌜ r ≡ Box.around a b ⌝ }
+{
+    let x0 = min_i(a.x0, b.x0);
+    let y0 = min_i(a.y0, b.y0);
+    let x1 = max_i(a.x1, b.x1);
+    let y1 = max_i(a.y1, b.y1);
+    IRect { x0, y0, x1, y1 }
+}
+
+// The smallest box around two, an empty one counting for nothing.
+pub fn join(a: IRect, b: IRect) -> IRect
+    ensures { λ r. ⌜ r ≡ Box.join a b ⌝ }
+{
+    if a.is_empty() {
+        return b;
+    }
+    if b.is_empty() {
+        return a;
+    }
+    around(a, b)
 }

@@ -1,5 +1,5 @@
 -- The format is lawful: items that it calls the same are equal, and no reading is refused by 0. Assumes nothing.
-use Prim.Native.Nat.{ℕ, zero, suc, _≤_}
+use Prim.Native.Nat.{ℕ, _≤_}
 use mathlib.Core.Path.{_≡_, refl, sym, ap, _∙_}
 use mathlib.Core.Bool.{Bool, true, false, cond, _&&_, false≢true}
 use mathlib.Core.List.{List, [], _∷_}
@@ -18,7 +18,7 @@ use Rattle.redraw.specs.Sheet.{Reading, refused, read, Lawful}
 use Rattle.items.specs.Items.{itemOf}
 use Rattle.items.specs.Format.{drawnAs, itemIn, sameBytes, sameBox, sameItem, sheetOf, reading, format}
 use Rattle.items.specs.declared.Item.{Item}
-use Rattle.items.specs.declared.Item.the-variants.{Push, Pop, Fill, Stroke, Line, Poly, Shadow, Unknown}
+use Rattle.items.specs.declared.Item.the-variants.{Push, Pop, Fill, Stroke, Line, Poly, Shadow, Chain, Unknown}
 
 pub bytes-equal : (a b : List ℕ) → sameBytes a b ≡ true → a ≡ b
 unfolding sameBytes
@@ -117,6 +117,7 @@ own b (Stroke rect r width color) = refl
 own b (Line p q width color) = refl
 own b (Poly paint count) = refl
 own b (Shadow rect r blur color skip) = refl
+own b (Chain width color count) = refl
 own b Unknown = refl
 
 -- the items that some bytes are are the same where the bytes are

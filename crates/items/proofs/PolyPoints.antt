@@ -1,4 +1,4 @@
--- The coordinates of a polygon's points, as a list. Assumes nothing.
+-- The coordinates of a polygon's or a chain's points, as a list. Assumes nothing.
 use Prim.Native.Nat.{ℕ, zero, suc, _+_, _*_, _≤_}
 use mathlib.Core.Path.{_≡_, refl, ap}
 use mathlib.Core.Bool.{true}

@@ -3,7 +3,7 @@
 use Prim.Native.Nat.{ℕ, zero, suc, _+_, max}
 use mathlib.Core.Bool.{Bool, true, false, cond, _&&_}
 use mathlib.Core.List.{List, [], _∷_}
-use lib.Dec.{eqb}
+use lib.Dec.{leb, eqb}
 use lib.Ieee.{Float}
 use Rattle.mathf.specs.F32.{f0}
 use Rattle.geom.specs.Int.{eqZ}
@@ -11,20 +11,27 @@ use Rattle.geom.specs.Box.{noBox}
 use Rattle.geom.specs.Plane.{outerOf}
 use Rattle.geom.specs.declared.IRect.{IRect}
 use Rattle.color.specs.Colours.{pixOf}
+use Rattle.color.specs.declared.Color.{Color}
+use Rattle.draw.specs.Parts.{reachAll, inkAll}
 use Rattle.fill.specs.Fill.{fillReach, fillInk}
 use Rattle.stroke.specs.Stroke.{strokeReach, strokeInk}
 use Rattle.line.specs.Lines.{lineReach, lineInk}
+use Rattle.line.specs.Polylines.{chainOf}
 use Rattle.poly.specs.Poly.{reachIn, needIn, polyInk}
 use Rattle.shadow.specs.Shadow.{shadowReach, shadowInk}
 use Rattle.sheet.specs.Check.{widthOf, heightOf, countOf, bytesAt, sheetCheck}
 use Rattle.redraw.specs.Drawing as drawing
 use Rattle.redraw.specs.Drawing.{push, pop, shape, Kind}
 use Rattle.redraw.specs.Sheet.{Sheet, Reading, refused, read, Format}
-use Rattle.items.specs.Items.{groundOf, itemOf, pointsOf}
+use Rattle.items.specs.Items.{groundOf, itemOf, pointsOf, jointsOf}
 use Rattle.items.specs.declared.Item.{Item}
-use Rattle.items.specs.declared.Item.the-variants.{Push, Pop, Fill, Stroke, Line, Poly, Shadow, Unknown}
+use Rattle.items.specs.declared.Item.the-variants.{Push, Pop, Fill, Stroke, Line, Poly, Shadow, Chain, Unknown}
 
 -- ---- a shape, by its bytes b and the item that they are
+
+-- the reach of a chain's lines; of more than 64 points, which no accepted sheet has, none
+abbrev pub chainReach : List ℕ → Float → Color → ℕ → IRect
+chainReach b width color count = cond (leb count 64) (reachAll (chainOf (jointsOf b count) width color)) noBox
 
 -- the reach (document 01, "A shape's reach"); what is no shape has none
 unfoldable pub reachOf : List ℕ → Item → IRect
@@ -35,6 +42,7 @@ reachOf b (Stroke rect r width color) = strokeReach rect color
 reachOf b (Line a e width color) = lineReach a e width
 reachOf b (Poly paint count) = reachIn (pointsOf b count)
 reachOf b (Shadow rect r blur color skip) = shadowReach rect blur color
+reachOf b (Chain width color count) = chainReach b width color count
 reachOf b Unknown = noBox
 
 -- the value that its method gives the pixel at x and y, from the value before
@@ -46,6 +54,7 @@ inkOf b (Stroke rect r width color) = strokeInk rect r width color
 inkOf b (Line a e width color) = lineInk a e width color
 inkOf b (Poly paint count) = polyInk (pointsOf b count) paint
 inkOf b (Shadow rect r blur color skip) = shadowInk rect r blur color skip
+inkOf b (Chain width color count) = inkAll (chainOf (jointsOf b count) width color)
 inkOf b Unknown = λ x y p. p
 
 -- the scratch words that it needs
@@ -57,6 +66,7 @@ needOf b (Stroke rect r width color) = 0
 needOf b (Line a e width color) = 0
 needOf b (Poly paint count) = needIn (pointsOf b count)
 needOf b (Shadow rect r blur color skip) = 0
+needOf b (Chain width color count) = 0
 needOf b Unknown = 0
 
 abbrev pub kind : Kind
@@ -73,6 +83,7 @@ drawnAs b (Stroke rect r width color) = shape b
 drawnAs b (Line a e width color) = shape b
 drawnAs b (Poly paint count) = shape b
 drawnAs b (Shadow rect r blur color skip) = shape b
+drawnAs b (Chain width color count) = shape b
 drawnAs b Unknown = shape b
 
 abbrev pub itemIn : List ℕ → drawing.Item (List ℕ)

@@ -1,9 +1,9 @@
 -- The items of a sheet as values (document 01, "The sheet"). An item is read from its own bytes, of which p is a place. Reading is total:
 -- past the end a byte is 0, and a kind that no accepted sheet has is an item that draws nothing. Assumes nothing.
 use Prim.Native.Nat.{ℕ, zero, suc, _+_, _-_, _*_, _≤_}
-use mathlib.Core.Bool.{Bool, cond, _&&_}
+use mathlib.Core.Bool.{cond}
 use mathlib.Core.List.{List, [], _∷_}
-use lib.Dec.{ltb, leb, eqb}
+use lib.Dec.{ltb, eqb}
 use mathlib.Core.Path.{_≡_}
 use lib.ListN.{length, take, drop}
 use lib.Ieee.{Float}
@@ -16,9 +16,9 @@ use Rattle.paints.specs.declared.Paint.{Paint}
 use Rattle.paints.specs.declared.Paint.the-variants.{Solid, VGrad, Linear, Radial}
 use Rattle.sheet.specs.Bytes.{byteAt, floatAt, lookup}
 use Rattle.sheet.specs.Kinds.{kindAt, pointsAt}
-use Rattle.sheet.specs.Check.{countOf, offsetOf, lengthOf, bytesAt}
+use Rattle.sheet.specs.Check.{countOf, bytesAt}
 use Rattle.items.specs.declared.Item.{Item}
-use Rattle.items.specs.declared.Item.the-variants.{Push, Pop, Fill, Stroke, Line, Poly, Shadow, Unknown}
+use Rattle.items.specs.declared.Item.the-variants.{Push, Pop, Fill, Stroke, Line, Poly, Shadow, Chain, Unknown}
 
 -- the ground: R G B
 abbrev pub groundOf : List ℕ → Color
@@ -63,6 +63,9 @@ abbrev pub readShadow : List ℕ → ℕ → Item
 readShadow s p =
     Shadow (readRect s (p + 4)) (floatAt s (p + 20)) (floatAt s (p + 24)) (readColor s (p + 28)) (eqb (byteAt s (p + 1)) 1)
 
+abbrev pub readChain : List ℕ → ℕ → Item
+readChain s p = Chain (floatAt s (p + 4)) (readColor s (p + 8)) (pointsAt s p)
+
 -- the item that starts at p
 unfoldable pub readItem : List ℕ → ℕ → Item
 readItem s p =
@@ -74,6 +77,7 @@ readItem s p =
     ∷ (5, readLine s p)
     ∷ (6, readPoly s p)
     ∷ (7, readShadow s p)
+    ∷ (8, readChain s p)
     ∷ [])
     Unknown
 
@@ -96,6 +100,9 @@ unfoldable pub coordsFrom : List ℕ → ℕ → ℕ → List Float
 coordsFrom s p zero = []
 coordsFrom s p (suc n) = floatAt s p ∷ coordsFrom s (p + 4) n
 
--- the m points of a polygon
+-- the m points of a polygon, and of a chain
 abbrev pub pointsOf : List ℕ → ℕ → List Float
 pointsOf b m = coordsFrom b 32 (2 * m)
+
+abbrev pub jointsOf : List ℕ → ℕ → List Float
+jointsOf b m = coordsFrom b 12 (2 * m)

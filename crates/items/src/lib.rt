@@ -8,12 +8,12 @@ use sheet::f32_at;
 use sheet::u16_at;
 ghost use mathlib.Core.Path.{_≡_};
 ghost use Prim.Native.Nat.{_<_, min};
-ghost use Rattle.items.specs.Items.{readColor, readPt, readRect, readPaint, readFill, readStroke, readLine, readPoly, readShadow, readItem, itemOf, itemAt, Lies, coordsFrom, groundOf};
+ghost use Rattle.items.specs.Items.{readColor, readPt, readRect, readPaint, readFill, readStroke, readLine, readPoly, readShadow, readChain, readItem, itemOf, itemAt, Lies, coordsFrom, groundOf};
 
 pub mod reaches;
 pub mod reader;
 
-// What an item says. A polygon's coordinates stay in its bytes: `count` points.
+// What an item says. The coordinates of a polygon and of a chain stay in its bytes: `count` points.
 pub enum Item {
     Push(Rect),
     Pop,
@@ -44,6 +44,11 @@ pub enum Item {
         blur: f32,
         color: Color,
         skip_inside: bool,
+    },
+    Chain {
+        width: f32,
+        color: Color,
+        count: usize,
     },
     // A kind that no accepted sheet has; it draws nothing.
     Unknown,
@@ -175,13 +180,25 @@ fn read_shadow(s: &[u8], p: usize) -> Item
     }
 }
 
-// The coordinates of 64 points, x y x y, in the bytes of a polygon; it has the first of them.
-pub fn coords(b: &[u8]) -> [f32; 128]
-    ensures { λ r. ⌜ r ≡ coordsFrom (now (b .entry)) 32 128 ⌝ }
+fn read_chain(s: &[u8], p: usize) -> Item
+    requires { ⌜ p < 65536 ⌝ }
+    ensures { λ r. ⌜ r ≡ readChain (now (s .entry)) p ⌝ }
 {
+    Item::Chain {
+        width: f32_at(s, p + 4),
+        color: read_color(s, p + 8),
+        count: u16_at(s, p + 2),
+    }
+}
+
+// The coordinates of 64 points, x y x y, from a place on in the bytes of a polygon or a chain; it has the first of them.
+pub fn coords(b: &[u8], from: u8) -> [f32; 128]
+    ensures { λ r. ⌜ r ≡ coordsFrom (now (b .entry)) from 128 ⌝ }
+{
+    let at = from as usize;
     let mut xs = [0.0; 128];
     for i in 0..128 {
-        xs[i] = f32_at(b, 32 + 4 * i);
+        xs[i] = f32_at(b, at + 4 * i);
     }
     xs
 }
@@ -200,7 +217,8 @@ fn read_item(s: &[u8], p: usize) -> Item
         5 => read_line(s, p),
         6 => read_poly(s, p),
         7 => read_shadow(s, p),
-        0 | 8..=255 => Item::Unknown,
+        8 => read_chain(s, p),
+        0 | 9..=255 => Item::Unknown,
     }
 }
 

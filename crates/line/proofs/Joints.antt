@@ -1,57 +1,54 @@
 -- The lines of a polyline, one after another.
---     length-lines    the length
---     lines-next      one line more
---     lines-at        what the first n lines leave of a pixel, which turns on nothing but its old value, its column and its row
---     polyline-at     the same of all lines
+--     lines-more      the lines from the one that ends at point i on are it and those after it
+--     drawn-turn      these lines, drawn
+--     reach-turn      and their reach
+--     polyline-drawn  all lines are one shape, of the reach and the ink of its parts
 -- Assumes nothing.
-use mathlib.Core.Path.{_≡_, refl, ap, _∙_}
-use mathlib.Core.Bool.{cond}
-use mathlib.Core.List.{List}
-use Prim.Native.Nat.{ℕ, zero, suc, _+_, _-_, _/_, _%_, _<_, _≤_}
+use mathlib.Core.Path.{_≡_, sym, ap, _∙_}
+use mathlib.Core.List.{List, _∷_}
+use Prim.Native.Nat.{ℕ, suc, _+_, _-_, _<_, _≤_, max}
 use native.Mathlib.Omega.{arith}
 use lib.Ieee.{Float}
-use lib.ListN.{length, getD}
-use Rattle.geom.specs.declared.Pt.{Pt}
 use Rattle.geom.specs.declared.IRect.{IRect}
+use Rattle.geom.specs.Box.{join}
 use Rattle.color.specs.declared.Color.{Color}
-use Rattle.draw.specs.Draw.{meets, drawn}
-use Rattle.draw.proofs.Onto.{length-onto, getD-onto}
-use Rattle.line.specs.Lines.{lineReach, lineInk}
-use Rattle.line.specs.Polylines.{pointAt, linesTo, polylined}
+use Rattle.draw.specs.Draw.{drawn}
+use Rattle.draw.specs.Parts.{Part, reachAll, inkAll, drawnAll}
+use Rattle.draw.proofs.Parts.{all-drawn}
+use Rattle.line.specs.Lines.{lineReach}
+use Rattle.line.specs.Polylines.{pointAt, linePart, linesFrom, chainOf, polylined}
 
-module _ (clip : IRect) (pts : List Float) (width : Float) (c : Color) where
-  -- a line on one pixel, where clip and reach hold it
-  abbrev lineAt : Pt → Pt → ℕ → ℕ → ℕ → ℕ
-  lineAt a b x y p = cond (meets clip (lineReach a b width) x y) (lineInk a b width c x y p) p
+module _ (pts : List Float) (width : Float) (c : Color) where
+  -- the line that ends at point i
+  abbrev line : ℕ → Part
+  line i = linePart (pointAt pts (i - 1)) (pointAt pts i) width c
 
-  -- the first n lines on one pixel
-  unfoldable pub linesAt : ℕ → ℕ → ℕ → ℕ → ℕ
-  linesAt zero x y p = p
-  linesAt (suc n) x y p = lineAt (pointAt pts n) (pointAt pts (n + 1)) x y (linesAt n x y p)
+  lines-more : (n i : ℕ) → 1 ≤ i → i < n → linesFrom pts width c (n - i) (i - 1) ≡ line i ∷ linesFrom pts width c (n - (i + 1)) (i + 1 - 1)
+  unfolding linesFrom
+  lines-more n i l h =
+      let e : n - i ≡ suc (n - (i + 1)) = omega arith in
+      let j : i - 1 + 1 ≡ i = omega arith in
+      let k : i + 1 - 1 ≡ i = omega arith in
+      rw (e, j, k)
 
-  module _ (pitch : ℕ) (px : List ℕ) where
-    pub length-lines : (n : ℕ) → length (linesTo pitch clip pts width c n px) ≡ length px
-    unfolding linesTo drawn
-    length-lines zero = refl
-    length-lines (suc n) = length-onto _ _ (linesTo pitch clip pts width c n px) ∙ length-lines n
+  pub drawn-turn : (pitch : ℕ) (clip : IRect) (px : List ℕ) (n i : ℕ) → 1 ≤ i → i < n
+      → drawnAll pitch clip (linesFrom pts width c (n - i) (i - 1)) px
+      ≡ drawnAll pitch clip (linesFrom pts width c (n - (i + 1)) (i + 1 - 1)) (drawn pitch clip (line i .reach) (line i .ink) px)
+  unfolding drawnAll
+  drawn-turn pitch clip px n i l h = ap (λ (parts : List Part). drawnAll pitch clip parts px) (lines-more n i l h)
 
-    pub lines-at : (n k : ℕ) → k < length px → getD (linesTo pitch clip pts width c n px) k 0 ≡ linesAt n (k % pitch) (k / pitch) (getD px k 0)
-    unfolding linesTo linesAt drawn
-    lines-at zero k h = refl
-    lines-at (suc n) k h =
-        getD-onto _ _ (linesTo pitch clip pts width c n px) k (omega (arith, length-lines n))
-        ∙ ap (lineAt (pointAt pts n) (pointAt pts (n + 1)) (k % pitch) (k / pitch)) (lines-at n k h)
+  pub reach-turn : (n i : ℕ) → 1 < i → i ≤ n
+      → join (lineReach (pointAt pts (i - 2)) (pointAt pts (i - 1)) width) (reachAll (linesFrom pts width c (n - max 1 i) (i - 1)))
+      ≡ reachAll (linesFrom pts width c (n - max 1 (i - 1)) (i - 1 - 1))
+  unfolding reachAll
+  reach-turn n i l h =
+      let m : max 1 i ≡ i = omega arith in
+      let k : max 1 (i - 1) ≡ i - 1 = omega arith in
+      let e : i - 1 + 1 ≡ i = omega arith in
+      let j : i - 1 - 1 ≡ i - 2 = omega arith in
+      rw (m, k) (sym (ap reachAll (lines-more n (i - 1) (omega arith) (omega arith)) ∙ rw (e, j)))
 
-    pub polyline-at : (k : ℕ) → k < length px → getD (polylined pitch clip pts width c px) k 0 ≡ linesAt (length pts / 2 - 1) (k % pitch) (k / pitch) (getD px k 0)
-    unfolding polylined
-    polyline-at k h = lines-at (length pts / 2 - 1) k h
-
-    -- the line that ends at point i
-    pub lines-next : (i : ℕ) → 1 ≤ i
-        → drawn pitch clip (lineReach (pointAt pts (i - 1)) (pointAt pts i) width) (lineInk (pointAt pts (i - 1)) (pointAt pts i) width c) (linesTo pitch clip pts width c (i - 1) px)
-        ≡ linesTo pitch clip pts width c (i + 1 - 1) px
-    unfolding linesTo
-    lines-next i h =
-        let e : i - 1 + 1 ≡ i = omega arith in
-        let s : i + 1 - 1 ≡ suc (i - 1) = omega arith in
-        rw (s, e)
+  pub polyline-drawn : (pitch : ℕ) (clip : IRect) (px : List ℕ)
+      → polylined pitch clip pts width c px ≡ drawn pitch clip (reachAll (chainOf pts width c)) (inkAll (chainOf pts width c)) px
+  unfolding polylined
+  polyline-drawn pitch clip px = all-drawn pitch clip (chainOf pts width c) px

@@ -7,6 +7,7 @@ use geom::IRect;
 use geom::Pt;
 use geom::Rect;
 use geom::float_ok;
+use geom::join;
 use geom::nat_of;
 use gfx::Canvas;
 use gfx::Done;
@@ -20,12 +21,14 @@ ghost use Rattle.geom.specs.declared.IRect.{IRect};
 ghost use Rattle.geom.specs.Int.{up};
 ghost use Rattle.geom.specs.Plane.{floatOk};
 ghost use Rattle.draw.specs.Draw.{drawn};
+ghost use Rattle.color.specs.declared.Color.{Color};
+ghost use Rattle.draw.specs.Parts.{reachAll};
 ghost use Rattle.draw.specs.Areas.{area, drawnIn, clipTo, RowFits, AreaFits};
 ghost use Rattle.gfx.specs.Calls.{Called, shapeNumber};
 ghost use Rattle.gfx.specs.Points.{pointsNumber};
 ghost use Rattle.paints.specs.Edges.{Sure};
 ghost use Rattle.line.specs.Lines.{absOf, lineReach, segmentOf, coverOf, segmentInk, lineInk, lineOk};
-ghost use Rattle.line.specs.Polylines.{pointAt, polylined};
+ghost use Rattle.line.specs.Polylines.{pointAt, polylined, chainOf};
 
 // What the pixels of a line share: its start, its direction, the square of its length and half its width.
 struct Segment {
@@ -180,6 +183,23 @@ fn point(pts: &[f32], i: usize) -> Pt
         x: pts[k],
         y: pts[k + 1],
     }
+}
+
+// The smallest box around the reaches of the lines between successive points, from the last line to the first; four zeros where no line
+// reaches a pixel.
+pub fn polyline_reach(pts: &[f32], width: f32) -> IRect
+    ensures { λ r. ⌜ ((c : Color) → r ≡ reachAll (chainOf (now (pts .entry)) width c)) ⌝ }
+{
+    let mut area = IRect::ZERO;
+    let mut i = pts.len() / 2;
+    while 1 < i {
+        area = join(
+            line_reach(point(pts, i - 2), point(pts, i - 1), width),
+            area,
+        );
+        i -= 1;
+    }
+    area
 }
 
 // The lines between successive points, under a clip within px.

@@ -1,12 +1,10 @@
 -- The items of an accepted sheet, drawn by the canvas calls, are redraw's `itemsOn`, and the scratch words that they need are +0. Assumes
 -- nothing.
-use Prim.Native.Nat.{ℕ, zero, suc, _+_, _*_, _≤_, _<_, max}
+use Prim.Native.Nat.{ℕ, zero, suc, _+_, _≤_, _<_, max}
 use mathlib.Core.Path.{_≡_, refl, sym, ap, _∙_}
 use mathlib.Core.Bool.{true}
 use mathlib.Core.List.{List, _∷_}
-use native.Mathlib.Nat.{add-zero, zero-add}
 use native.Mathlib.Omega.{arith}
-use lib.Ieee.{Float}
 use lib.ListN.{length}
 use Rattle.geom.specs.Int.{up}
 use Rattle.geom.specs.declared.IRect.{IRect}
@@ -15,19 +13,19 @@ use Rattle.gfx.specs.declared.Canvas.{Canvas}
 use Rattle.gfx.proofs.Kept.{Sound}
 use Rattle.gfx.proofs.Sizes.{Open}
 use Rattle.poly.specs.Poly.{cleared}
-use Rattle.sheet.specs.Kinds.{kindAt, depthAfter}
-use Rattle.sheet.specs.Check.{countOf, offsetOf, bytesAt, depthAt, verdict, sheetCheck}
+use Rattle.sheet.specs.Kinds.{depthAfter}
+use Rattle.sheet.specs.Check.{countOf, bytesAt, depthAt, verdict, sheetCheck}
 use Rattle.sheet.proofs.Accepted.{AcceptedItem, accepted-item, depthBefore, depth-next}
 use Rattle.sheet.proofs.Local.{kind-same}
 use Rattle.items.specs.Items.{itemOf}
 use Rattle.items.specs.Format.{needOf, drawnAs, itemIn, itemNeed, needs, itemsFrom, kind}
 use Rattle.items.specs.declared.Item.{Item}
-use Rattle.items.specs.declared.Item.the-variants.{Push, Pop, Fill, Stroke, Line, Poly, Shadow, Unknown}
+use Rattle.items.specs.declared.Item.the-variants.{Push, Pop, Fill, Stroke, Line, Poly, Shadow, Chain, Unknown}
 use Rattle.items.proofs.Sound.{itemOk, savedAfter, item-ok, saved-after}
 use Rattle.redraw.specs.Drawing as drawing
 use Rattle.redraw.specs.Drawing.{push, pop, shape, itemOn, itemsOn}
 use Rattle.redraw.proofs.Items.{length-shape}
-use Rattle.render.specs.Stages.{Stage, stage, stateAfter, shapePx, shapeScratch, stageAfter, stagesFrom}
+use Rattle.render.specs.Stages.{Stage, stateAfter, stageAfter, stagesFrom}
 use Rattle.render.proofs.Clips.{clipsOf}
 use Rattle.render.proofs.Cleared.{cleared-length, cleared-none, cleared-twice}
 use Rattle.render.proofs.Steps.{After, after-item, px-item, scratch-item}
@@ -42,6 +40,7 @@ need-in b (Stroke rect r width color) e = rw e
 need-in b (Line p q width color) e = rw e
 need-in b (Poly paint count) e = rw e
 need-in b (Shadow rect r blur color skip) e = rw e
+need-in b (Chain width color count) e = rw e
 need-in b Unknown e = rw e
 
 -- px is as long after an item as before it

@@ -1,7 +1,7 @@
 -- An item that is in order, drawn by the canvas calls, is drawn as redraw has it: the clips after it, px and scratch. Assumes nothing.
 use Prim.Native.Nat.{ℕ, _-_, _*_, _%_, _≤_}
-use mathlib.Core.Path.{_≡_, refl, sym, ap, _∙_}
-use mathlib.Core.Bool.{Bool, true, false, cond, _&&_, false≢true}
+use mathlib.Core.Path.{_≡_, refl, sym}
+use mathlib.Core.Bool.{Bool, true, cond, _&&_, false≢true}
 use mathlib.Core.List.{List}
 use native.Mathlib.Omega.{arith}
 use borrow.Author.Tests.{eq-eqb, eqb-true, ltb-true, leb-true, le-leb}
@@ -15,8 +15,8 @@ use Rattle.geom.specs.declared.Pt.{Pt}
 use Rattle.geom.specs.declared.Rect.{Rect}
 use Rattle.geom.proofs.Bools.{and-left, and-right, and-both, split}
 use Rattle.draw.specs.Draw.{drawn}
-use Rattle.gfx.specs.State.{validOf, pushed, unsaved, popped}
-use Rattle.gfx.specs.Calls.{areaOf, answer, left, stateNumber, pushNumber, shapeNumber}
+use Rattle.gfx.specs.State.{pushed, unsaved, popped}
+use Rattle.gfx.specs.Calls.{areaOf, answer, left, pushNumber, shapeNumber}
 use Rattle.gfx.specs.Points.{pointsOk, coordsOk, pointsNumber}
 use Rattle.paints.specs.Paints.{paintOk}
 use Rattle.gfx.specs.declared.Canvas.{Canvas}
@@ -24,17 +24,18 @@ use Rattle.paints.specs.declared.Paint.{Paint}
 use Rattle.gfx.proofs.Kept.{Sound, push-clip-sound, pop-sound}
 use Rattle.gfx.proofs.Sizes.{Open}
 use Rattle.line.specs.Lines.{lineOk}
-use Rattle.poly.specs.Poly.{polyNumber, polyNeed, polyOk, reachIn, needIn, cleared}
+use Rattle.line.proofs.Joints.{polyline-drawn}
+use Rattle.poly.specs.Poly.{polyNumber, polyNeed, polyOk, needIn, cleared}
 use Rattle.poly.proofs.Accepts.{need-in, reach-in}
 use Rattle.sheet.specs.Bytes.{floats}
-use Rattle.items.specs.Items.{itemOf, pointsOf}
+use Rattle.items.specs.Items.{itemOf, coordsFrom, pointsOf, jointsOf}
 use Rattle.items.specs.Format.{reachOf, inkOf, needOf, drawnAs, kind}
 use Rattle.items.specs.declared.Item.{Item}
-use Rattle.items.specs.declared.Item.the-variants.{Push, Pop, Fill, Stroke, Line, Poly, Shadow, Unknown}
+use Rattle.items.specs.declared.Item.the-variants.{Push, Pop, Fill, Stroke, Line, Poly, Shadow, Chain, Unknown}
 use Rattle.items.proofs.Sound.{itemOk, savedAfter}
 use Rattle.items.proofs.PolyPoints.{coords-length, coords-ok}
 use Rattle.redraw.specs.Drawing as drawing
-use Rattle.render.specs.Stages.{stateAfter, called, polyPx, polyScratch, shapePx, shapeScratch}
+use Rattle.render.specs.Stages.{stateAfter, called, chainPx, polyPx, polyScratch, shapePx, shapeScratch}
 use Rattle.render.proofs.Clips.{clipsOf, clips-pushed, clips-popped}
 
 -- ---- the state
@@ -105,6 +106,7 @@ module _ (b : List ℕ) (c : Canvas) (s : Sound c) where
   after-item (Line p q width color) e = after-same (Line p q width color) refl refl
   after-item (Poly paint count) e = after-same (Poly paint count) refl refl
   after-item (Shadow rect r blur color skip) e = after-same (Shadow rect r blur color skip) refl refl
+  after-item (Chain width color count) e = after-same (Chain width color count) refl refl
   after-item Unknown e = after-same Unknown refl refl
 
 -- ---- px and scratch
@@ -122,50 +124,58 @@ module _ (c : Canvas) (px : List ℕ) (o : Open c (length px)) where
   unfolding left shapeNumber
   shape-drawn ok reach ink e = rw (o .valid, eq-eqb (length px) (areaOf (c .w) (c .h)) (o .count), e)
 
-module _ (b : List ℕ) (count : ℕ) (paint : Paint) (ok : leb count 64 && floats b 32 (2 * count) && paintOk paint ≡ true) where
+-- a polygon or a chain: at most 64 points, whose floats stand in its bytes from a place on and are in range, as are the others that it has
+module _ (b : List ℕ) (from count : ℕ) (others : Bool) (ok : leb count 64 && floats b from (2 * count) && others ≡ true) where
   few : leb count 64 ≡ true
-  few = and-left _ (floats b 32 (2 * count)) (and-left _ (paintOk paint) ok)
+  few = and-left _ (floats b from (2 * count)) (and-left _ others ok)
 
-  coords : coordsOk (pointsOf b count) ≡ true
-  coords = coords-ok b 32 (2 * count) (and-right (leb count 64) _ (and-left _ (paintOk paint) ok))
+  coords : coordsOk (coordsFrom b from (2 * count)) ≡ true
+  coords = coords-ok b from (2 * count) (and-right (leb count 64) _ (and-left _ others ok))
 
-  points : pointsOk (pointsOf b count) ≡ true
+  points : pointsOk (coordsFrom b from (2 * count)) ≡ true
   unfolding pointsOk
   points =
       let even : 2 * count % 2 ≡ 0 = omega arith in
       let short : 2 * count ≤ 128 = omega (arith, leb-true count 64 few) in
-      rw (coords-length b 32 (2 * count)) (and-both (eq-eqb (2 * count % 2) 0 even) (le-leb (2 * count) 128 short))
+      rw (coords-length b from (2 * count)) (and-both (eq-eqb (2 * count % 2) 0 even) (le-leb (2 * count) 128 short))
 
-  pub poly-ok : polyOk (pointsOf b count) ≡ true
-  unfolding polyOk
-  poly-ok = and-both points coords
-
-  poly-accepted : (c : Canvas) (px : List ℕ) (words : ℕ) → Open c (length px) → needIn (pointsOf b count) ≤ words
-      → polyNumber c (length px) (pointsOf b count) paint words ≡ 0
-  unfolding polyNumber pointsNumber
-  poly-accepted c px words o h =
+  points-accepted : (c : Canvas) (px : List ℕ) → Open c (length px) → pointsNumber c (length px) (coordsFrom b from (2 * count)) others ≡ 0
+  unfolding pointsNumber
+  points-accepted c px o =
       rw (
         o .valid,
         eq-eqb (length px) (areaOf (c .w) (c .h)) (o .count),
         points,
         coords,
-        and-right (leb count 64 && floats b 32 (2 * count)) _ ok,
-        le-leb (polyNeed (pointsOf b count)) words (rw (need-in _ poly-ok) at h),
+        and-right (leb count 64 && floats b from (2 * count)) others ok,
       )
+
+module _ (b : List ℕ) (count : ℕ) (paint : Paint) (ok : leb count 64 && floats b 32 (2 * count) && paintOk paint ≡ true) where
+  poly-ok : polyOk (pointsOf b count) ≡ true
+  unfolding polyOk
+  poly-ok = and-both (points b 32 count (paintOk paint) ok) (coords b 32 count (paintOk paint) ok)
+
+  poly-accepted : (c : Canvas) (px : List ℕ) (words : ℕ) → Open c (length px) → needIn (pointsOf b count) ≤ words
+      → polyNumber c (length px) (pointsOf b count) paint words ≡ 0
+  unfolding polyNumber
+  poly-accepted c px words o h =
+      rw (points-accepted b 32 count (paintOk paint) ok c px o, le-leb (polyNeed (pointsOf b count)) words (rw (need-in _ poly-ok) at h))
 
 module _ (b : List ℕ) (c : Canvas) (px : List ℕ) (o : Open c (length px)) (scratch : List Float) where
   -- px, by the item that the bytes are
   pub px-item : (i : Item) → itemOf b ≡ i → itemOk b (c .depth) i ≡ true → needOf b i ≤ length scratch
       → shapePx b i c px (length scratch) ≡ drawing.itemOn kind (up (c .w)) (drawnAs b i) (c .clip) px
-  unfolding shapePx itemOk needOf reachOf inkOf drawnAs drawing.itemOn drawing.shapeOn polyPx left
+  unfolding shapePx itemOk needOf reachOf inkOf drawnAs drawing.itemOn drawing.shapeOn polyPx chainPx left
   px-item (Push rect) e k h = refl
   px-item Pop e k h = refl
   px-item (Fill rect r paint) e k h = rw (e) (shape-drawn c px o _ _ _ k)
   px-item (Stroke rect r width color) e k h = rw (e) (shape-drawn c px o _ _ _ (three (rectOk rect) (floatOk r) (floatOk width) k))
   px-item (Line p q width color) e k h = rw (e) (shape-drawn c px o _ _ _ (line-ok p q width k))
   px-item (Poly paint count) e k h =
-      rw (e, few b count paint k, poly-accepted b count paint k c px (length scratch) o h, reach-in _ (poly-ok b count paint k))
+      rw (e, few b 32 count (paintOk paint) k, poly-accepted b count paint k c px (length scratch) o h, reach-in _ (poly-ok b count paint k))
   px-item (Shadow rect r blur color skip) e k h = rw (e) (shape-drawn c px o _ _ _ (three (rectOk rect) (floatOk r) (floatOk blur) k))
+  px-item (Chain width color count) e k h =
+      rw (e, few b 12 count (floatOk width) k, points-accepted b 12 count (floatOk width) k c px o) (polyline-drawn (jointsOf b count) width color (up (c .w)) (c .clip) px)
   px-item Unknown e k h = absurd (false≢true k)
 
   pub scratch-item : (i : Item) → itemOk b (c .depth) i ≡ true → needOf b i ≤ length scratch
@@ -177,6 +187,7 @@ module _ (b : List ℕ) (c : Canvas) (px : List ℕ) (o : Open c (length px)) (s
   scratch-item (Stroke rect r width color) k h = refl
   scratch-item (Line p q width color) k h = refl
   scratch-item (Poly paint count) k h =
-      rw (few b count paint k, poly-accepted b count paint k c px (length scratch) o h, need-in _ (poly-ok b count paint k))
+      rw (few b 32 count (paintOk paint) k, poly-accepted b count paint k c px (length scratch) o h, need-in _ (poly-ok b count paint k))
   scratch-item (Shadow rect r blur color skip) k h = refl
+  scratch-item (Chain width color count) k h = refl
   scratch-item Unknown k h = absurd (false≢true k)

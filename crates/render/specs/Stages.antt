@@ -8,22 +8,25 @@ use lib.Dec.{leb, eqb}
 use lib.Ieee.{Float}
 use lib.ListN.{length}
 use Rattle.geom.specs.Int.{up}
-use Rattle.geom.specs.Plane.{outerOf}
+use Rattle.geom.specs.Plane.{floatOk, outerOf}
 use Rattle.geom.specs.declared.IRect.{IRect}
+use Rattle.color.specs.declared.Color.{Color}
 use Rattle.draw.specs.Draw.{drawn}
 use Rattle.gfx.specs.State.{pushed, popped}
 use Rattle.gfx.specs.Calls.{answer, left, stateNumber, pushNumber, shapeNumber}
+use Rattle.gfx.specs.Points.{pointsNumber}
 use Rattle.gfx.specs.declared.Canvas.{Canvas}
 use Rattle.paints.specs.declared.Paint.{Paint}
 use Rattle.fill.specs.Fill.{fillReach, fillInk, rrectFloats}
 use Rattle.stroke.specs.Stroke.{strokeReach, strokeInk, strokeOk}
 use Rattle.line.specs.Lines.{lineReach, lineInk, lineOk}
+use Rattle.line.specs.Polylines.{polylined}
 use Rattle.poly.specs.Poly.{polyNumber, polyReach, polyInk, polyNeed, cleared}
 use Rattle.shadow.specs.Shadow.{shadowReach, shadowInk, shadowOk}
 use Rattle.sheet.specs.Check.{bytesAt}
-use Rattle.items.specs.Items.{itemOf, pointsOf}
+use Rattle.items.specs.Items.{itemOf, pointsOf, jointsOf}
 use Rattle.items.specs.declared.Item.{Item}
-use Rattle.items.specs.declared.Item.the-variants.{Push, Pop, Fill, Stroke, Line, Poly, Shadow, Unknown}
+use Rattle.items.specs.declared.Item.the-variants.{Push, Pop, Fill, Stroke, Line, Poly, Shadow, Chain, Unknown}
 
 -- the state that `push_clip` or `pop_clip` returns; a shape leaves it
 unfoldable pub stateAfter : Item → Canvas → Canvas
@@ -34,6 +37,7 @@ stateAfter (Stroke rect r width color) c = c
 stateAfter (Line a e width color) c = c
 stateAfter (Poly paint count) c = c
 stateAfter (Shadow rect r blur color skip) c = c
+stateAfter (Chain width color count) c = c
 stateAfter Unknown c = c
 
 -- px after a shape call, by whether its floats are in range
@@ -51,6 +55,12 @@ polyScratch b count paint c n scratch =
     let pts = pointsOf b count in
     cond (leb count 64) (cond (eqb (polyNumber c n pts paint (length scratch)) 0) (cleared (polyNeed pts) scratch) scratch) scratch
 
+-- px after the call for a chain of so many points: none is made for more than 64
+unfoldable pub chainPx : List ℕ → ℕ → Float → Color → Canvas → List ℕ → List ℕ
+chainPx b count width color c px =
+    let pts = jointsOf b count in
+    cond (leb count 64) (left (pointsNumber c (length px) pts (floatOk width)) px (polylined (up (c .w)) (c .clip) pts width color px)) px
+
 -- px after an item, where so many scratch words are lent
 unfoldable pub shapePx : List ℕ → Item → Canvas → List ℕ → ℕ → List ℕ
 shapePx b (Push rect) c px words = px
@@ -61,6 +71,7 @@ shapePx b (Line a e width color) c px words = called c (lineOk a e width) (lineR
 shapePx b (Poly paint count) c px words = polyPx b count paint c px words
 shapePx b (Shadow rect r blur color skip) c px words =
     called c (shadowOk rect r blur) (shadowReach rect blur color) (shadowInk rect r blur color skip) px
+shapePx b (Chain width color count) c px words = chainPx b count width color c px
 shapePx b Unknown c px words = px
 
 -- scratch after an item, where n pixels are lent
@@ -72,6 +83,7 @@ shapeScratch b (Stroke rect r width color) c n scratch = scratch
 shapeScratch b (Line a e width color) c n scratch = scratch
 shapeScratch b (Poly paint count) c n scratch = polyScratch b count paint c n scratch
 shapeScratch b (Shadow rect r blur color skip) c n scratch = scratch
+shapeScratch b (Chain width color count) c n scratch = scratch
 shapeScratch b Unknown c n scratch = scratch
 
 -- what is left in px and in scratch

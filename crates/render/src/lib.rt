@@ -1,4 +1,5 @@
 // Drawing the items of a sheet on a canvas, one after the other.
+use color::Color;
 use fill::fill_rrect;
 use gfx::Canvas;
 use items::Item;
@@ -6,6 +7,7 @@ use items::coords;
 use items::item_of;
 use items::part_at;
 use line::line;
+use line::polyline;
 use paints::Paint;
 use poly::fill_poly;
 use shadow::shadow_rrect;
@@ -15,7 +17,7 @@ ghost use mathlib.Core.Path.{_≡_};
 ghost use lib.ListN.{length};
 ghost use Rattle.items.specs.Items.{itemOf};
 ghost use Rattle.sheet.specs.Check.{countOf, bytesAt};
-ghost use Rattle.render.specs.Stages.{stateAfter, polyPx, polyScratch, shapePx, shapeScratch, Left, stage, stageAfter, stagesFrom};
+ghost use Rattle.render.specs.Stages.{stateAfter, chainPx, polyPx, polyScratch, shapePx, shapeScratch, Left, stage, stageAfter, stagesFrom};
 
 // The state after an item: a push or a pop alters it.
 fn state_after(item: Item, canvas: Canvas) -> Canvas
@@ -29,6 +31,7 @@ fn state_after(item: Item, canvas: Canvas) -> Canvas
         Item::Line { .. } => canvas,
         Item::Poly { .. } => canvas,
         Item::Shadow { .. } => canvas,
+        Item::Chain { .. } => canvas,
         Item::Unknown => canvas,
     }
 }
@@ -47,8 +50,19 @@ fn draw_poly(
     if count > 64 {
         return;
     }
-    let xs = coords(b);
+    let xs = coords(b, 32);
     fill_poly(canvas, px, &xs[..2 * count], paint, scratch);
+}
+
+// Draws the lines between so many points, whose coordinates stand in a chain's bytes.
+fn draw_chain(b: &[u8], count: usize, width: f32, color: Color, canvas: Canvas, px: &mut [u32])
+    ensures { λ _. ⌜ now (px .exit) ≡ chainPx (now (b .entry)) count width color canvas (now (px .entry)) ⌝ }
+{
+    if count > 64 {
+        return;
+    }
+    let xs = coords(b, 12);
+    polyline(canvas, px, &xs[..2 * count], width, color);
 }
 
 // Draws an item that is a shape; any other leaves px and scratch.
@@ -88,6 +102,13 @@ fn draw_shape(b: &[u8], item: Item, canvas: Canvas, px: &mut [u32], scratch: &mu
             skip_inside,
         } => {
             shadow_rrect(canvas, px, rect, r, blur, color, skip_inside);
+        }
+        Item::Chain {
+            width,
+            color,
+            count,
+        } => {
+            draw_chain(b, count, width, color, canvas, px);
         }
         Item::Unknown => {}
     }

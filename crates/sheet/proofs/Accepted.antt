@@ -143,7 +143,7 @@ accepted-item s k e h =
 -- what the rule of lengths says: a known kind, and its length
 pub record Sized (s : List ℕ) (at len : ℕ) : Type 0 where
   pub low : 1 ≤ kindAt s at
-  pub high : kindAt s at ≤ 7
+  pub high : kindAt s at ≤ 8
   pub four : 4 ≤ len
   pub exact : len ≡ layoutAt s at .length
 
@@ -154,23 +154,24 @@ sized s at len long =
     let first = and-left _ (eqb len (layoutAt s at .length)) long in
     let known = and-left _ (leb 4 len) first in
     record {
-      low = leb-true _ _ (and-left _ (leb kind 7) known);
+      low = leb-true _ _ (and-left _ (leb kind 8) known);
       high = leb-true _ _ (and-right (leb 1 kind) _ known);
-      four = leb-true _ _ (and-right (leb 1 kind && leb kind 7) _ first);
-      exact = eqb-true _ _ (and-right (leb 1 kind && leb kind 7 && leb 4 len) _ long);
+      four = leb-true _ _ (and-right (leb 1 kind && leb kind 8) _ first);
+      exact = eqb-true _ _ (and-right (leb 1 kind && leb kind 8 && leb 4 len) _ long);
     }
 
 -- what an item's tests say
 module _ (s : List ℕ) (k : ℕ) (a : AcceptedItem s k) where
-  pub kind-known : (1 ≤ kindAt s (offsetOf s k)) × (kindAt s (offsetOf s k) ≤ 7)
+  pub kind-known : (1 ≤ kindAt s (offsetOf s k)) × (kindAt s (offsetOf s k) ≤ 8)
   kind-known = let z = sized s (offsetOf s k) (lengthOf s k) (a .long) in (z .low, z .high)
 
   pub length-is : lengthOf s k ≡ layoutAt s (offsetOf s k) .length
   length-is = sized s (offsetOf s k) (lengthOf s k) (a .long) .exact
 
-  pub few-points : kindAt s (offsetOf s k) ≡ 6 → pointsAt s (offsetOf s k) ≤ 64
+  -- of a polygon or a chain
+  pub few-points : eqb (kindAt s (offsetOf s k)) 6 || eqb (kindAt s (offsetOf s k)) 8 ≡ true → pointsAt s (offsetOf s k) ≤ 64
   unfolding pointsOk
-  few-points e = leb-true _ _ (simp (eq-eqb (kindAt s (offsetOf s k)) 6 e) at (a .points))
+  few-points e = leb-true _ _ (simp e at (a .points))
 
   pub push-room : kindAt s (offsetOf s k) ≡ 1 → depthBefore s k < 16
   unfolding savedOk

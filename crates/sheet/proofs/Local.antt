@@ -1,7 +1,7 @@
 -- The checks of an item read its own bytes alone: what they say of the sheet at its offset they say of those bytes. Assumes nothing.
 use Prim.Native.Nat.{ℕ, zero, suc, _+_, _*_, _<_, _≤_}
 use mathlib.Core.Path.{_≡_, refl, sym, ap, subst, _∙_}
-use mathlib.Core.Bool.{Bool, true, _&&_, _||_}
+use mathlib.Core.Bool.{Bool, true, not, _&&_, _||_}
 use mathlib.Core.List.{List}
 use mathlib.Core.Logic.{⊎-elim}
 use native.Mathlib.Nat.{mul-suc, zero-add, eq-or-lt-of-le}
@@ -9,11 +9,11 @@ use native.Mathlib.Omega.{arith}
 use lib.Dec.{eqb}
 use lib.ListN.{take, drop}
 use lib.Seq.{getD-take, getD-drop}
-use borrow.Author.Tests.{eqb-false, ne-eqb}
+use borrow.Author.Tests.{eqb-true, eqb-false, ne-eqb}
 use Rattle.geom.proofs.Refusals.{passed}
 use Rattle.geom.proofs.Bools.{split}
 use Rattle.sheet.specs.Bytes.{byteAt, zeroAt, floatOkAt, allAt, zeros, floats}
-use Rattle.sheet.specs.Kinds.{kindAt, pointsAt, layoutOf, layoutAt, paintLayout, lengthOk, pointsOk, paintBytesOk, bytesOk, paintFloatsOk, floatsOk, savedOk, itemNumber}
+use Rattle.sheet.specs.Kinds.{kindAt, pointsAt, layoutOf, layoutAt, paintLayout, lengthOk, pointsOk, paintBytesOk, bytesOk, paintFloatsOk, widthOk, floatsOk, savedOk, itemNumber}
 use Rattle.sheet.specs.Check.{offsetOf, lengthOf, bytesAt}
 use Rattle.sheet.specs.declared.kinds.Layout.{Layout}
 use Rattle.sheet.proofs.Accepted.{AcceptedItem, Sized, sized}
@@ -60,7 +60,10 @@ module _ (m : ℕ) where
   room-7 : Room (layoutOf 7 m)
   room-7 = record { zero = omega arith; float = omega arith; paint = λ h. omega arith }
 
-  layout-room : (kind : ℕ) → 1 ≤ kind → kind ≤ 7 → Room (layoutOf kind m)
+  room-8 : Room (layoutOf 8 m)
+  room-8 = record { zero = omega arith; float = omega arith; paint = λ h. omega arith }
+
+  layout-room : (kind : ℕ) → 1 ≤ kind → kind ≤ 8 → Room (layoutOf kind m)
   layout-room kind low high =
       least 1 kind low (λ e. rw e room-1)
       (λ h1. least 2 kind h1 (λ e. rw e room-2)
@@ -68,7 +71,8 @@ module _ (m : ℕ) where
       (λ h3. least 4 kind h3 (λ e. rw e room-4)
       (λ h4. least 5 kind h4 (λ e. rw e room-5)
       (λ h5. least 6 kind h5 (λ e. rw e room-6)
-      (λ h6. let e : kind ≡ 7 = omega arith in rw e room-7))))))
+      (λ h6. least 7 kind h6 (λ e. rw e room-7)
+      (λ h7. let e : kind ≡ 8 = omega arith in rw e room-8)))))))
 
 -- the zeros and the floats of a paint lie within its 28 bytes
 record PaintRoom (f : Layout) : Type 0 where
@@ -187,13 +191,23 @@ module _ (s : List ℕ) (at len : ℕ) (long : lengthOk s at len ≡ true) where
         with-paint paintBytesOk (paint-bytes s at len),
       )
 
+  -- the width of a chain
+  width-own : (not (eqb (kindAt s at) 8) || floatOkAt (own s at len) 4) ≡ widthOk s at
+  unfolding layoutAt
+  width-own =
+      split (eqb (kindAt s at) 8) (λ t. (not t || floatOkAt (own s at len) 4) ≡ (not t || floatOkAt s (at + 4)))
+      (λ e. let l : len ≡ 12 + 8 * pointsAt s at = fits .exact ∙ rw (eqb-true (kindAt s at) 8 e) in float-same s at len 4 (omega arith))
+      (λ e. refl)
+
   floats-own : floatsOk (own s at len) 0 ≡ floatsOk s at
   unfolding floatsOk
   floats-own =
       rw (
         layout-own s at len (fits .four),
+        kind-own s at len (fits .four),
         zero-add (f .float),
         zero-add (f .paint),
+        width-own,
         floats-same s at len (f .float) (at + f .float) (f .floats) refl (omega (arith, room .float, fits .exact)),
         with-paint paintFloatsOk (paint-floats s at len),
       )

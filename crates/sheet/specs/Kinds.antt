@@ -5,10 +5,10 @@ use mathlib.Core.List.{List, [], _∷_}
 use mathlib.Core.Bool.{Bool, not, _&&_, _||_}
 use lib.Dec.{ltb, leb, eqb}
 use Rattle.geom.specs.Refusals.{unless}
-use Rattle.sheet.specs.Bytes.{byteAt, u16At, zeros, floats, lookup}
+use Rattle.sheet.specs.Bytes.{byteAt, u16At, zeros, floatOkAt, floats, lookup}
 use Rattle.sheet.specs.declared.kinds.Layout.{Layout}
 
--- the kind; bytes 2 and 3, which are m in a polygon
+-- the kind; bytes 2 and 3, which are m in a polygon and in a chain
 abbrev pub kindAt : List ℕ → ℕ → ℕ
 kindAt s at = byteAt s at
 
@@ -31,6 +31,7 @@ layoutOf kind m =
     ∷ (5, row 28 1 3 4 5 0)  -- line: ax ay bx by width, colour
     ∷ (6, row (32 + 8 * m) 1 1 32 (2 * m) 4)  -- polygon: paint, m points; bytes 2-3 are m
     ∷ (7, row 32 2 2 4 6 0)  -- shadow: x y w h r blur, colour; byte 1 is `skip_inside`
+    ∷ (8, row (12 + 8 * m) 1 1 12 (2 * m) 0)  -- chain: width, colour, m points; bytes 2-3 are m
     ∷ [])
     (row 0 1 3 4 0 0)
 
@@ -52,11 +53,11 @@ paintLayout kind =
 
 -- 4: a known kind, four bytes at least, and the length of the kind
 unfoldable pub lengthOk : List ℕ → ℕ → ℕ → Bool
-lengthOk s at len = (leb 1 (kindAt s at) && leb (kindAt s at) 7) && leb 4 len && eqb len (layoutAt s at .length)
+lengthOk s at len = (leb 1 (kindAt s at) && leb (kindAt s at) 8) && leb 4 len && eqb len (layoutAt s at .length)
 
--- 13: at most 64 points
+-- 13: at most 64 points, of a polygon and of a chain
 unfoldable pub pointsOk : List ℕ → ℕ → Bool
-pointsOk s at = not (eqb (kindAt s at) 6) || leb (pointsAt s at) 64
+pointsOk s at = not (eqb (kindAt s at) 6 || eqb (kindAt s at) 8) || leb (pointsAt s at) 64
 
 -- 5: of a paint at p, its kind, and what it leaves zero
 unfoldable pub paintBytesOk : List ℕ → ℕ → Bool
@@ -64,23 +65,32 @@ paintBytesOk s p =
     let f = paintLayout (byteAt s p) in
     leb (byteAt s p) 3 && zeros s (p + 1) 3 && zeros s (p + f .zero) (f .zeros)
 
+-- 5: `skip_inside` of a shadow
+abbrev pub skipOk : List ℕ → ℕ → Bool
+skipOk s at = not (eqb (kindAt s at) 7) || leb (byteAt s (at + 1)) 1
+
 -- 5: of an item, its zero bytes, `skip_inside` of a shadow, and its paint
 unfoldable pub bytesOk : List ℕ → ℕ → Bool
 bytesOk s at =
     let f = layoutAt s at in
     zeros s (at + f .zero) (f .zeros)
-    && (not (eqb (kindAt s at) 7) || leb (byteAt s (at + 1)) 1)
+    && skipOk s at
     && (eqb (f .paint) 0 || paintBytesOk s (at + f .paint))
 
 -- 6: the floats that a paint at p uses
 unfoldable pub paintFloatsOk : List ℕ → ℕ → Bool
 paintFloatsOk s p = floats s (p + 12) (paintLayout (byteAt s p) .floats)
 
--- 6: the floats of an item, and those of its paint
+-- 6: the width of a chain, which stands apart from its points
+abbrev pub widthOk : List ℕ → ℕ → Bool
+widthOk s at = not (eqb (kindAt s at) 8) || floatOkAt s (at + 4)
+
+-- 6: the floats of an item, the width of a chain, and the floats of its paint
 unfoldable pub floatsOk : List ℕ → ℕ → Bool
 floatsOk s at =
     let f = layoutAt s at in
     floats s (at + f .float) (f .floats)
+    && widthOk s at
     && (eqb (f .paint) 0 || paintFloatsOk s (at + f .paint))
 
 -- 7: a push, where fewer than 16 clips are saved

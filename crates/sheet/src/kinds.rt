@@ -2,10 +2,12 @@
 use crate::bytes::all_floats;
 use crate::bytes::all_zero;
 use crate::bytes::byte_at;
+use crate::bytes::f32_at;
 use crate::bytes::u16_at;
+use geom::float_ok;
 ghost use mathlib.Core.Path.{_≡_};
 ghost use Prim.Native.Nat.{_<_};
-ghost use Rattle.sheet.specs.Kinds.{row, layoutOf, layoutAt, paintLayout, lengthOk, pointsOk, paintBytesOk, bytesOk, paintFloatsOk, floatsOk, savedOk, itemNumber, depthAfter};
+ghost use Rattle.sheet.specs.Kinds.{row, layoutOf, layoutAt, paintLayout, lengthOk, pointsOk, paintBytesOk, skipOk, bytesOk, paintFloatsOk, widthOk, floatsOk, savedOk, itemNumber, depthAfter};
 
 // Where the fields of an item, or of a paint, lie, counted from its first byte: its length; the bytes that it leaves zero, from `zero` on;
 // its floats, from `float` on; its paint, 0 where it has none.
@@ -31,7 +33,7 @@ fn row(length: u32, zero: u8, zeros: u8, float: u8, floats: u32, paint: u8) -> L
     }
 }
 
-// An item of a kind; m is a polygon's number of points.
+// An item of a kind; m is a polygon's or a chain's number of points.
 fn layout_of(kind: u8, m: u32) -> Layout
     requires { ⌜ m < 65536 ⌝ }
     ensures { λ r. ⌜ r ≡ layoutOf kind m ⌝ }
@@ -44,7 +46,8 @@ fn layout_of(kind: u8, m: u32) -> Layout
         5 => row(28, 1, 3, 4, 5, 0),
         6 => row(32 + 8 * m, 1, 1, 32, 2 * m, 4),
         7 => row(32, 2, 2, 4, 6, 0),
-        0 | 8..=255 => row(0, 1, 3, 4, 0, 0),
+        8 => row(12 + 8 * m, 1, 1, 12, 2 * m, 0),
+        0 | 9..=255 => row(0, 1, 3, 4, 0, 0),
     }
 }
 
@@ -75,15 +78,17 @@ fn length_ok(s: &[u8], at: usize, len: usize) -> bool
 {
     let kind = byte_at(s, at);
     let f = layout_at(s, at);
-    (1 <= kind) & (kind <= 7) & (4 <= len) & (len == f.length as usize)
+    (1 <= kind) & (kind <= 8) & (4 <= len) & (len == f.length as usize)
 }
 
-// Nor 13: at most 64 points.
+// Nor 13: at most 64 points, of a polygon and of a chain.
 fn points_ok(s: &[u8], at: usize) -> bool
     requires { ⌜ at < 65536 ⌝ }
     ensures { λ r. ⌜ r ≡ pointsOk (now (s .entry)) at ⌝ }
 {
-    (byte_at(s, at) != 6) | (u16_at(s, at + 2) <= 64)
+    let kind = byte_at(s, at);
+    let pointed = (kind == 6) | (kind == 8);
+    !pointed | (u16_at(s, at + 2) <= 64)
 }
 
 fn paint_bytes_ok(s: &[u8], p: usize) -> bool
@@ -95,6 +100,14 @@ fn paint_bytes_ok(s: &[u8], p: usize) -> bool
     (kind <= 3) & all_zero(s, p + 1, 3) & all_zero(s, p + f.zero as usize, f.zeros as usize)
 }
 
+// The flag of a shadow.
+fn skip_ok(s: &[u8], at: usize) -> bool
+    requires { ⌜ at < 65536 ⌝ }
+    ensures { λ r. ⌜ r ≡ skipOk (now (s .entry)) at ⌝ }
+{
+    byte_at(s, at) != 7 || byte_at(s, at + 1) <= 1
+}
+
 // Nor 5: zero bytes, `skip_inside`, the paint's kind and what it leaves zero.
 fn bytes_ok(s: &[u8], at: usize) -> bool
     requires { ⌜ at < 65536 ⌝ }
@@ -102,7 +115,7 @@ fn bytes_ok(s: &[u8], at: usize) -> bool
 {
     let f = layout_at(s, at);
     let zero = all_zero(s, at + f.zero as usize, f.zeros as usize);
-    let skip = (byte_at(s, at) != 7) | (byte_at(s, at + 1) <= 1);
+    let skip = skip_ok(s, at);
     let paint = (f.paint == 0) | paint_bytes_ok(s, at + f.paint as usize);
     zero & skip & paint
 }
@@ -115,15 +128,24 @@ fn paint_floats_ok(s: &[u8], p: usize) -> bool
     all_floats(s, p + 12, f.floats as usize)
 }
 
-// Nor 6: the floats of the item, and those that its paint uses.
+// The width of a chain, which stands apart from its points.
+fn width_ok(s: &[u8], at: usize) -> bool
+    requires { ⌜ at < 65536 ⌝ }
+    ensures { λ r. ⌜ r ≡ widthOk (now (s .entry)) at ⌝ }
+{
+    byte_at(s, at) != 8 || float_ok(f32_at(s, at + 4))
+}
+
+// Nor 6: the floats of the item, the width of a chain, and the floats that its paint uses.
 fn floats_ok(s: &[u8], at: usize) -> bool
     requires { ⌜ at < 65536 ⌝ }
     ensures { λ r. ⌜ r ≡ floatsOk (now (s .entry)) at ⌝ }
 {
     let f = layout_at(s, at);
     let own = all_floats(s, at + f.float as usize, f.floats as usize);
+    let width = width_ok(s, at);
     let paint = (f.paint == 0) | paint_floats_ok(s, at + f.paint as usize);
-    own & paint
+    own & width & paint
 }
 
 // Nor 7: a push where fewer than 16 clips are saved.

@@ -11,10 +11,10 @@ use Rattle.items.proofs.coords.Statement.{statement}
 use Rattle.items.proofs.coords.Tie as tie
 
 abbrev Inv-loop : tie.InvT-loop
-Inv-loop b xs₀ i₀ xs i = (take i xs ≡ coordsFrom b 32 i) × (length xs ≡ 128) × (i ≤ 128)
+Inv-loop b from at xs₀ i₀ xs i = (take i xs ≡ coordsFrom b at i) × (length xs ≡ 128) × (i ≤ 128)
 
 abbrev μ-loop : tie.MeasureT-loop
-μ-loop b xs₀ i₀ xs i = 128 - i
+μ-loop b from at xs₀ i₀ xs i = 128 - i
 
 loop-holds : tie.Need-loop-holds Inv-loop μ-loop
 unfolding coordsFrom
@@ -45,7 +45,7 @@ loop-again : tie.Need-loop-again Inv-loop μ-loop
 loop-again c =
     let a = c .before .before .before .before .args in
     let l = c .before .before .loop in (
-      rw (coords-more (a .b .now) 32 (l .i), add-one (l .i))
+      rw (coords-more (a .b .now) (a .from) (l .i), add-one (l .i))
           (take-suc-set (l .xs) (l .i) _ (omega arith) ∙ rw (l .inv .0, c .f32-at .ensures)),
       simp length-set (l .inv .1),
       omega arith,

@@ -30,6 +30,9 @@ read-poly-requires c κs = search needs
 read-shadow-requires : tie.Need-read-shadow-requires
 read-shadow-requires c κs = search needs
 
+read-chain-requires : tie.Need-read-chain-requires
+read-chain-requires c κs = search needs
+
 returns : tie.Need-returns
 unfolding readItem
 returns c = simp (sym (c .before .before .byte-at .ensures) ∙ c .before .match .keys1, c .read-rect .ensures)
@@ -60,11 +63,15 @@ returns-7 c = simp (sym (c .before .before .byte-at .ensures) ∙ c .before .mat
 
 returns-8 : tie.Need-returns-8
 unfolding readItem
-returns-8 c = simp (sym (c .before .byte-at .ensures) ∙ c .match .keys8)
+returns-8 c = simp (sym (c .before .before .byte-at .ensures) ∙ c .before .match .keys8) (c .read-chain .ensures)
 
 returns-9 : tie.Need-returns-9
 unfolding readItem
-returns-9 c = sym (no-kind _ _ _ _ _ _ _ _ _ (rw (c .before .byte-at .ensures) at (c .match .rest .0)))
+returns-9 c = simp (sym (c .before .byte-at .ensures) ∙ c .match .keys9)
+
+returns-10 : tie.Need-returns-10
+unfolding readItem
+returns-10 c = sym (no-kind _ _ _ _ _ _ _ _ _ _ (rw (c .before .byte-at .ensures) at (c .match .rest .0)))
 
 pub read-item-spec : {M : Type 1} → statement M
 read-item-spec =
@@ -78,6 +85,7 @@ read-item-spec =
     read-line-requires
     read-poly-requires
     read-shadow-requires
+    read-chain-requires
     returns
     returns-2
     returns-3
@@ -86,4 +94,5 @@ read-item-spec =
     returns-6
     returns-7
     returns-8
-    returns-9)
+    returns-9
+    returns-10)

@@ -41,8 +41,14 @@ enum-known-item-5 c = c .match .keys7
 shadow-rrect-requires : tie.Need-shadow-rrect-requires
 shadow-rrect-requires c κs = tt
 
+enum-known-item-6 : tie.Need-enum-known-item-6
+enum-known-item-6 c = c .match .keys8
+
+draw-chain-requires : tie.Need-draw-chain-requires
+draw-chain-requires c κs = tt
+
 enum-told-3 : tie.Need-enum-told-3
-enum-told-3 c = c .match .keys8
+enum-told-3 c = c .match .keys9
 
 returns : tie.Need-returns
 unfolding shapePx shapeScratch
@@ -90,9 +96,16 @@ returns-7 : tie.Need-returns-7
 unfolding shapePx shapeScratch
 returns-7 c = rw (c .before .before .before .before .before .item5 .given .1) (record { paints = c .before .before .shadow-rrect .ensures .paints; clears = refl })
 
+same-length-7 : tie.Need-same-length-7
+same-length-7 c = search needs
+
 returns-8 : tie.Need-returns-8
 unfolding shapePx shapeScratch
-returns-8 c = rw (c .enum-told3 .given .1) (record { paints = refl; clears = refl })
+returns-8 c = rw (c .before .before .before .before .before .item6 .given .1) (record { paints = c .before .before .draw-chain .ensures; clears = refl })
+
+returns-9 : tie.Need-returns-9
+unfolding shapePx shapeScratch
+returns-9 c = rw (c .enum-told3 .given .1) (record { paints = refl; clears = refl })
 
 pub draw-shape-spec : {M : Type 1} → statement M
 draw-shape-spec =
@@ -110,6 +123,8 @@ draw-shape-spec =
     draw-poly-requires
     enum-known-item-5
     shadow-rrect-requires
+    enum-known-item-6
+    draw-chain-requires
     enum-told-3
     returns
     returns-2
@@ -124,4 +139,6 @@ draw-shape-spec =
     returns-6
     same-length-6
     returns-7
-    returns-8)
+    same-length-7
+    returns-8
+    returns-9)

@@ -35,6 +35,9 @@ enum-told-6 c = c .match .keys7
 enum-told-7 : tie.Need-enum-told-7
 enum-told-7 c = c .match .keys8
 
+enum-told-8 : tie.Need-enum-told-8
+enum-told-8 c = c .match .keys9
+
 returns : tie.Need-returns
 unfolding stateAfter
 returns c = rw (c .before .before .before .item .given .1) (ap (λ (d : Done). d .canvas) (c .before .push-clip .ensures))
@@ -67,6 +70,10 @@ returns-8 : tie.Need-returns-8
 unfolding stateAfter
 returns-8 c = rw (c .enum-told7 .given .1)
 
+returns-9 : tie.Need-returns-9
+unfolding stateAfter
+returns-9 c = rw (c .enum-told8 .given .1)
+
 pub state-after-spec : {M : Type 1} → statement M
 state-after-spec =
     tie.close
@@ -81,6 +88,7 @@ state-after-spec =
     enum-told-5
     enum-told-6
     enum-told-7
+    enum-told-8
     returns
     returns-2
     returns-3
@@ -88,4 +96,5 @@ state-after-spec =
     returns-5
     returns-6
     returns-7
-    returns-8)
+    returns-8
+    returns-9)

@@ -53,6 +53,9 @@ read-color-requires-2 c κs = omega arith
 shadow-reach-requires : tie.Need-shadow-reach-requires
 shadow-reach-requires c κs = tt
 
+chain-reach-requires : tie.Need-chain-reach-requires
+chain-reach-requires c κs = tt
+
 new-requires : tie.Need-new-requires
 new-requires c κs = tt
 
@@ -80,12 +83,16 @@ unfolding readItem reachOf
 returns-5 c = simp (sym (c .before .before .before .before .before .byte-at .ensures) ∙ c .before .before .before .before .match .keys5) (c .shadow-reach .ensures ∙ rw (c .before .read-color2 .ensures, c .before .before .f32-at2 .ensures, c .before .before .before .read-rect3 .ensures))
 
 returns-6 : tie.Need-returns-6
-unfolding noBox
-returns-6 c = c .new .ensures ∙ no-shape _ (rw (c .before .before .before .byte-at .ensures) at (c .before .before .match .rest))
+unfolding readItem reachOf
+returns-6 c = simp (sym (c .before .before .byte-at .ensures) ∙ c .before .match .keys6) (c .chain-reach .ensures _)
 
 returns-7 : tie.Need-returns-7
 unfolding noBox
-returns-7 c = c .new2 .ensures ∙ no-shape _ (rw (c .before .before .before .byte-at .ensures) at (c .before .before .match .rest))
+returns-7 c = c .new .ensures ∙ no-shape _ (rw (c .before .before .before .byte-at .ensures) at (c .before .before .match .rest))
+
+returns-8 : tie.Need-returns-8
+unfolding noBox
+returns-8 c = c .new2 .ensures ∙ no-shape _ (rw (c .before .before .before .byte-at .ensures) at (c .before .before .match .rest))
 
 pub reach-spec : {M : Type 1} → statement M
 reach-spec =
@@ -106,6 +113,7 @@ reach-spec =
     f32-at-requires-2
     read-color-requires-2
     shadow-reach-requires
+    chain-reach-requires
     new-requires
     new-requires-2
     returns
@@ -114,4 +122,5 @@ reach-spec =
     returns-4
     returns-5
     returns-6
-    returns-7)
+    returns-7
+    returns-8)

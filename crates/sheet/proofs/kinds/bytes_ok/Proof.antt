@@ -19,14 +19,8 @@ cast-all-zero-2 c = search needs
 all-zero-requires : tie.Need-all-zero-requires
 all-zero-requires c κs = search needs
 
-byte-at-requires : tie.Need-byte-at-requires
-byte-at-requires c κs = search needs
-
-add-byte-at : tie.Need-add-byte-at
-add-byte-at c = search needs
-
-byte-at-requires-2 : tie.Need-byte-at-requires-2
-byte-at-requires-2 c κs = search needs
+skip-ok-requires : tie.Need-skip-ok-requires
+skip-ok-requires c κs = search needs
 
 cast-paint-bytes-ok : tie.Need-cast-paint-bytes-ok
 cast-paint-bytes-ok c = search needs
@@ -39,7 +33,10 @@ paint-bytes-ok-requires c κs = search needs
 
 returns : tie.Need-returns
 unfolding bytesOk
-returns c = rw (c .paint-bytes-ok .ensures, c .before .before .before .byte-at2 .ensures, c .before .before .before .before .byte-at .ensures, c .before .before .before .before .before .all-zero .ensures, c .before .before .before .before .before .before .before .before .layout-at .ensures)
+returns c =
+    let k = c .before .before .before in
+    let z = k .before in
+    rw (c .paint-bytes-ok .ensures, k .skip-ok .ensures, z .all-zero .ensures, z .before .before .before .layout-at .ensures)
 
 pub bytes-ok-spec : {M : Type 1} → statement M
 bytes-ok-spec =
@@ -50,9 +47,7 @@ bytes-ok-spec =
     add-all-zero
     cast-all-zero-2
     all-zero-requires
-    byte-at-requires
-    add-byte-at
-    byte-at-requires-2
+    skip-ok-requires
     cast-paint-bytes-ok
     add-paint-bytes-ok
     paint-bytes-ok-requires

@@ -19,6 +19,9 @@ cast-all-floats-2 c = search needs
 all-floats-requires : tie.Need-all-floats-requires
 all-floats-requires c κs = search needs
 
+width-ok-requires : tie.Need-width-ok-requires
+width-ok-requires c κs = search needs
+
 cast-paint-floats-ok : tie.Need-cast-paint-floats-ok
 cast-paint-floats-ok c = search needs
 
@@ -30,7 +33,10 @@ paint-floats-ok-requires c κs = search needs
 
 returns : tie.Need-returns
 unfolding floatsOk
-returns c = rw (c .paint-floats-ok .ensures, c .before .before .before .all-floats .ensures, c .before .before .before .before .before .before .layout-at .ensures)
+returns c =
+    let w = c .before .before .before in
+    let f = w .before in
+    rw (c .paint-floats-ok .ensures, w .width-ok .ensures, f .all-floats .ensures, f .before .before .before .layout-at .ensures)
 
 pub floats-ok-spec : {M : Type 1} → statement M
 floats-ok-spec =
@@ -41,6 +47,7 @@ floats-ok-spec =
     add-all-floats
     cast-all-floats-2
     all-floats-requires
+    width-ok-requires
     cast-paint-floats-ok
     add-paint-floats-ok
     paint-floats-ok-requires

@@ -36,8 +36,20 @@ row-requires-6 c κs = search needs
 row-requires-7 : tie.Need-row-requires-7
 row-requires-7 c κs = search needs
 
+mul-row-3 : tie.Need-mul-row-3
+mul-row-3 c = search needs
+
+add-row-2 : tie.Need-add-row-2
+add-row-2 c = search needs
+
+mul-row-4 : tie.Need-mul-row-4
+mul-row-4 c = search needs
+
 row-requires-8 : tie.Need-row-requires-8
 row-requires-8 c κs = search needs
+
+row-requires-9 : tie.Need-row-requires-9
+row-requires-9 c κs = search needs
 
 returns : tie.Need-returns
 returns c = simp (c .before .match .keys1) (c .row .ensures)
@@ -61,10 +73,13 @@ returns-7 : tie.Need-returns-7
 returns-7 c = simp (c .before .match .keys7) (c .row7 .ensures)
 
 returns-8 : tie.Need-returns-8
-returns-8 c =
+returns-8 c = simp (c .before .match .keys8) (c .row8 .ensures)
+
+returns-9 : tie.Need-returns-9
+returns-9 c =
     ⊎-elim
-    (λ k. simp (k .keys8) (c .row8 .ensures))
-    (λ k. c .row8 .ensures ∙ sym (no-kind _ _ _ _ _ _ _ _ _ (k .rest .0)))
+    (λ k. simp (k .keys9) (c .row9 .ensures))
+    (λ k. c .row9 .ensures ∙ sym (no-kind _ _ _ _ _ _ _ _ _ _ (k .rest .0)))
     (c .before .match .came)
 
 pub layout-of-spec : {M : Type 1} → statement M
@@ -81,7 +96,11 @@ layout-of-spec =
     mul-row-2
     row-requires-6
     row-requires-7
+    mul-row-3
+    add-row-2
+    mul-row-4
     row-requires-8
+    row-requires-9
     returns
     returns-2
     returns-3
@@ -89,4 +108,5 @@ layout-of-spec =
     returns-5
     returns-6
     returns-7
-    returns-8)
+    returns-8
+    returns-9)

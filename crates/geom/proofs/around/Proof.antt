@@ -1,8 +1,8 @@
--- `compare::around` meets its contract. Assumes nothing.
+-- `geom::around` meets its contract. Assumes nothing.
 use Rattle.geom.specs.Box.{around}
 use Rattle.geom.proofs.Signed.{kept}
-use Rattle.compare.proofs.around.Statement.{statement}
-use Rattle.compare.proofs.around.Tie as tie
+use Rattle.geom.proofs.around.Statement.{statement}
+use Rattle.geom.proofs.around.Tie as tie
 
 min-i-requires : tie.Need-min-i-requires
 min-i-requires c κs = tt

@@ -1,8 +1,8 @@
--- `compare::join` meets its contract. Assumes nothing.
+-- `geom::join` meets its contract. Assumes nothing.
 use mathlib.Core.Path.{sym, _∙_}
 use Rattle.geom.specs.Box as Box
-use Rattle.compare.proofs.join.Statement.{statement}
-use Rattle.compare.proofs.join.Tie as tie
+use Rattle.geom.proofs.join.Statement.{statement}
+use Rattle.geom.proofs.join.Tie as tie
 
 is-empty-requires : tie.Need-is-empty-requires
 is-empty-requires c κs = tt

@@ -1,0 +1,115 @@
+-- Parts drawn one after the other are one shape.
+--     all-drawn                                parts drawn under a clip, as the drawing of their reach and ink
+--     reach-each, reach-least, reach-none      their reach is the smallest box around theirs
+-- Assumes nothing.
+use mathlib.Core.Path.{_≡_, refl, sym, ap, _∙_}
+use mathlib.Core.Bool.{Bool, true, false, cond, _&&_}
+use mathlib.Core.List.{List, [], _∷_}
+use Prim.Native.Nat.{ℕ, _/_, _%_, _<_}
+use native.Mathlib.Omega.{arith}
+use lib.IntN.{pos}
+use lib.ListN.{length, getD}
+use lib.Seq.{ext-getD}
+use Rattle.geom.specs.declared.IRect.{IRect}
+use Rattle.geom.specs.Box.{inside, empty, noBox, Holds}
+use Rattle.geom.proofs.Bools.{same-test}
+use Rattle.geom.proofs.Boxes.{join-left, join-right, holds-join, holds-empty, empty-join}
+use Rattle.draw.specs.Draw.{meets, drawn}
+use Rattle.draw.specs.Parts.{Part, reachAll, inkAll, drawnAll}
+use Rattle.draw.proofs.Clips.{length-shape, shape-at}
+
+-- ---- the reach
+
+-- a box holds each of the parts' reaches
+unfoldable pub HoldsParts : IRect → List Part → Type 0
+HoldsParts big [] = Unit {0}
+HoldsParts big (a ∷ l) = Holds big (a .reach) × HoldsParts big l
+
+wider : (wide narrow : IRect) (l : List Part) → Holds wide narrow → HoldsParts narrow l → HoldsParts wide l
+unfolding HoldsParts
+wider wide narrow [] h e = tt
+wider wide narrow (a ∷ l) h e = (record { holds = λ x y i. h .holds x y (e .0 .holds x y i) }, wider wide narrow l h (e .1))
+
+pub reach-each : (l : List Part) → HoldsParts (reachAll l) l
+unfolding HoldsParts reachAll
+reach-each [] = tt
+reach-each (a ∷ l) = (join-left (a .reach) (reachAll l), wider _ _ l (join-right (a .reach) (reachAll l)) (reach-each l))
+
+pub reach-least : (l : List Part) (big : IRect) → HoldsParts big l → Holds big (reachAll l)
+unfolding HoldsParts reachAll noBox empty
+reach-least [] big h = holds-empty big noBox refl
+reach-least (a ∷ l) big h = holds-join big (a .reach) (reachAll l) (h .0) (reach-least l big (h .1))
+
+pub reach-none : (l : List Part) → empty (reachAll l) ≡ true → reachAll l ≡ noBox
+unfolding reachAll
+reach-none [] e = refl
+reach-none (a ∷ l) e = let j = empty-join (a .reach) (reachAll l) e in j ∙ reach-none l (rw j at e)
+
+-- ---- one pixel
+
+module _ (x y : ℕ) where
+  abbrev in-box : IRect → Bool
+  in-box b = inside b (pos x) (pos y)
+
+  outside : (big small : IRect) → Holds big small → in-box big ≡ false → in-box small ≡ false
+  outside big small h o = same-test (in-box small) false (λ e. sym o ∙ h .holds (pos x) (pos y) e) (λ z. cc)
+
+  -- outside the reach of the parts the ink leaves the pixel
+  ink-outside : (l : List Part) (p : ℕ) → in-box (reachAll l) ≡ false → inkAll l x y p ≡ p
+  unfolding reachAll inkAll
+  ink-outside [] p o = refl
+  ink-outside (a ∷ l) p o =
+      let left : cond (in-box (a .reach)) (a .ink x y p) p ≡ p = rw (outside _ (a .reach) (join-left (a .reach) (reachAll l)) o) in
+      ap (inkAll l x y) left ∙ ink-outside l p (outside _ (reachAll l) (join-right (a .reach) (reachAll l)) o)
+
+  ink-reached : (l : List Part) (p : ℕ) → cond (in-box (reachAll l)) (inkAll l x y p) p ≡ inkAll l x y p
+  ink-reached l p = go (in-box (reachAll l)) refl
+    where
+      go : (t : Bool) → in-box (reachAll l) ≡ t → cond t (inkAll l x y p) p ≡ inkAll l x y p
+      go true e = refl
+      go false e = sym (ink-outside l p e)
+
+  -- the parts under a clip that holds the pixel, or does not
+  module _ (clip : IRect) where
+    unfoldable under : List Part → ℕ → ℕ
+    under [] p = p
+    under (a ∷ l) p = under l (cond (meets clip (a .reach) x y) (a .ink x y p) p)
+
+    under-in : in-box clip ≡ true → (l : List Part) (p : ℕ) → under l p ≡ inkAll l x y p
+    unfolding under inkAll meets
+    under-in e [] p = refl
+    under-in e (a ∷ l) p = rw e (under-in e l _)
+
+    under-out : in-box clip ≡ false → (l : List Part) (p : ℕ) → under l p ≡ p
+    unfolding under meets
+    under-out e [] p = refl
+    under-out e (a ∷ l) p = rw e (under-out e l p)
+
+    under-all : (l : List Part) (p : ℕ) → under l p ≡ cond (meets clip (reachAll l) x y) (inkAll l x y p) p
+    unfolding meets
+    under-all l p = go (in-box clip) refl
+      where
+        go : (t : Bool) → in-box clip ≡ t → under l p ≡ cond (t && in-box (reachAll l)) (inkAll l x y p) p
+        go true e = under-in e l p ∙ sym (ink-reached l p)
+        go false e = under-out e l p
+
+-- ---- all pixels
+
+module _ (pitch : ℕ) (clip : IRect) where
+  pub length-all : (l : List Part) (px : List ℕ) → length (drawnAll pitch clip l px) ≡ length px
+  unfolding drawnAll
+  length-all [] px = refl
+  length-all (a ∷ l) px = length-all l (drawn pitch clip (a .reach) (a .ink) px) ∙ length-shape pitch clip (a .reach) (a .ink) px
+
+  all-at : (l : List Part) (px : List ℕ) (k : ℕ) → k < length px → getD (drawnAll pitch clip l px) k 0 ≡ under (k % pitch) (k / pitch) clip l (getD px k 0)
+  unfolding drawnAll under
+  all-at [] px k h = refl
+  all-at (a ∷ l) px k h =
+      all-at l (drawn pitch clip (a .reach) (a .ink) px) k (omega (arith, length-shape pitch clip (a .reach) (a .ink) px))
+      ∙ ap (under (k % pitch) (k / pitch) clip l) (shape-at pitch clip (a .reach) (a .ink) px k h)
+
+  pub all-drawn : (l : List Part) (px : List ℕ) → drawnAll pitch clip l px ≡ drawn pitch clip (reachAll l) (inkAll l) px
+  all-drawn l px =
+      ext-getD 0 _ _ (length-all l px ∙ sym (length-shape pitch clip (reachAll l) (inkAll l) px))
+      (λ k h. let h′ : k < length px = omega (arith, length-all l px) in
+      all-at l px k h′ ∙ under-all (k % pitch) (k / pitch) clip l (getD px k 0) ∙ sym (shape-at pitch clip (reachAll l) (inkAll l) px k h′))
