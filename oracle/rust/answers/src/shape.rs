@@ -197,7 +197,7 @@ fn subnormal(random: &mut Random) -> f32 {
 }
 
 /// A place on a canvas of a side: near it, at a whole or half, beside a whole one, subnormal; where `far`, out to 8,192 either way.
-fn place(random: &mut Random, side: i32, far: bool) -> f32 {
+pub fn place(random: &mut Random, side: i32, far: bool) -> f32 {
     match random.below(16) {
         0 if far => random.within(-8192.0, 8192.0),
         1 if far => random.of(&[8192.0, -8192.0]),

@@ -120,6 +120,9 @@ pub fn fault(left: &Left, expected: &Expected, px: &[u32], scratch: &[u32]) -> O
 /// Runs of so many cases or more print how often each number was returned.
 pub const TOLD: u64 = 100_000;
 
+/// Runs of so many cases or more must have seen every sort of chain.
+pub const USUAL: u64 = 5_000;
+
 /// How often each number was returned.
 #[derive(Default)]
 pub struct Numbers([u64; 15]);

@@ -2,9 +2,10 @@
 use crate::Stored;
 use answers::random::{Random, SEED};
 use sheets::{
-    change::{self, APART, DAMAGED_NEW, DAMAGED_OLD, PX, SCRATCH},
+    chains::unseen,
+    change::{self, APART, DAMAGED_NEW, DAMAGED_OLD, ONE_SHAPE, PX, SCRATCH},
     damage::damaged,
-    fixed, make, paint, patch, Expected, Made, Sheet,
+    fixed, make, paint, patch, Chains, Expected, Made, Sheet,
 };
 
 /// Words of a case, and the most that it has of pixels, scratch, and words of its sheets.
@@ -84,11 +85,12 @@ fn lent(sheet: &[u8], made: &Made, random: &mut Random) -> (usize, usize) {
     (px.min(PIXELS), scratch)
 }
 
-/// A sheet whose one item is a polygon of 63 to 66 points, or whose items are 15 to 18 pushes.
+/// A sheet whose one item is a polygon or a chain of 63 to 66 points, or whose items are 15 to 18 pushes.
 fn many(made: &Made, random: &mut Random) -> Made {
     let (sides, more) = (made.sides(), random.below(4) as usize);
-    let items = match random.below(2) {
+    let items = match random.below(3) {
         0 => vec![make::polygon(random, sides, 63 + more)],
+        1 => vec![make::chain(random, sides, 63 + more)],
         _ => (0..15 + more).map(|_| make::push(random, sides)).collect(),
     };
     Made { items, ..made.clone() }
@@ -109,7 +111,7 @@ fn patching(kept: &Made, random: &mut Random) -> Given {
     let way = match random.below(8) {
         0 | 1 => random.of(&[DAMAGED_NEW, DAMAGED_NEW, DAMAGED_OLD]),
         2..=4 => change::way(random),
-        _ => random.below(5) as usize,
+        _ => random.below(ONE_SHAPE as u32) as usize,
     };
     let (mut old, mut new) = change::patch(kept, random, way);
     if random.below(16) == 0 {
@@ -133,18 +135,38 @@ fn all_stand(cases: &[Vec<u32>], numbers: &[u32], least: usize) {
     }
 }
 
+/// Holds the cases to have shown every sort of chain.
+fn all_chains(cases: &[Given]) {
+    let mut chains = Chains::default();
+    for given in cases {
+        let expected = given.expected();
+        match (&expected.sheet, Sheet::read(&given.old)) {
+            (Some(sheet), Ok(old)) => {
+                chains.painted(sheet);
+                chains.patched(&old, sheet);
+            }
+            (Some(sheet), Err(_)) => chains.painted(sheet),
+            (None, _) if given.f == PAINT => chains.refused(&given.new, &expected.answer),
+            (None, _) => (),
+        }
+    }
+    let counts = if cases[0].f == PAINT { chains.paintings() } else { chains.patches() };
+    let never = unseen(&counts, true);
+    assert!(never.is_empty(), "chains never seen: {never:?}");
+    println!("{}", chains.share());
+}
+
 /// Document 01's examples that fit, then random sheets, two in five of them damaged.
 pub fn paintings() -> Stored {
     fixed::check();
     let mut random = Random(SEED + 10);
     let examples = fixed::paintings().into_iter().map(|p| Given { f: PAINT, old: vec![], new: p.sheet, px: p.px, scratch: p.scratch });
-    let mut cases: Vec<Vec<u32>> = examples.filter(Given::fits).map(|given| given.case(&mut random)).collect();
-    while cases.len() < CASES {
-        let given = painting(&mut random);
-        if given.fits() {
-            cases.push(given.case(&mut random));
-        }
+    let mut all: Vec<Given> = examples.filter(Given::fits).collect();
+    while all.len() < CASES {
+        all.extend(Some(painting(&mut random)).filter(Given::fits));
     }
+    all_chains(&all);
+    let cases: Vec<Vec<u32>> = all.iter().map(|given| given.case(&mut random)).collect();
     all_stand(&cases, &[1, 2, 3, 4, 5, 6, 7, 8, 9, 13], 4);
     Stored { functions: PAINT..=PAINT, width: WIDTH, cases }
 }
@@ -156,9 +178,9 @@ pub fn patches() -> Stored {
         let sound = Sheet::read(&p.old).is_ok_and(|old| old.w * old.h == p.px);
         Given { f: if sound { AFTER } else { PATCH }, old: p.old, new: p.new, px: p.px, scratch: p.scratch }
     });
-    let mut cases: Vec<Vec<u32>> = examples.filter(Given::fits).map(|given| given.case(&mut random)).collect();
+    let mut all: Vec<Given> = examples.filter(Given::fits).collect();
     let mut kept = sound(&mut random);
-    while cases.len() < CASES {
+    while all.len() < CASES {
         if random.below(12) == 0 {
             kept = sound(&mut random);
         }
@@ -166,11 +188,13 @@ pub fn patches() -> Stored {
         if !given.fits() {
             continue;
         }
-        cases.push(given.case(&mut random));
         if let (AFTER, Some(sheet)) = (given.f, given.expected().sheet) {
             kept = Made::of(&sheet);
         }
+        all.push(given);
     }
+    all_chains(&all);
+    let cases: Vec<Vec<u32>> = all.iter().map(|given| given.case(&mut random)).collect();
     all_stand(&cases, &[1, 2, 3, 4, 5, 6, 7, 8, 9, 10, 13], 2);
     Stored { functions: PAINT..=AFTER, width: WIDTH, cases }
 }

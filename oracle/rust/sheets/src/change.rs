@@ -1,37 +1,44 @@
 //! Patches: ways in which a new sheet differs from the one that is kept.
 use crate::{
     damage::damaged,
-    item::{floats, paint_at},
-    make::{any_shape, pop, push, shape},
-    Item, Made, MOST_CHANGES, MOST_ITEMS,
+    float, half,
+    item::{paint_at, CHAIN_COLOUR},
+    make::{a_float, any_kind, any_shape, pop, push, shape},
+    Item, Made, MOST_CHANGES, MOST_ITEMS, MOST_POINTS,
 };
 use answers::random::Random;
 use kash::geom::IRect;
 
 /// The ways, in the order of `WAYS`.
-pub const WAYS: [&str; 17] = [
-    "moved", "recoloured", "resized", "a bit altered", "another shape", "no difference", "several shapes", "shapes swapped",
-    "several and a clip", "header", "a clip", "count", "damaged new sheet", "px length", "scratch length", "damaged old sheet",
-    "another old sheet",
+pub const WAYS: [&str; 18] = [
+    "moved", "recoloured", "resized", "a bit altered", "another shape", "a chain grown", "no difference", "several shapes",
+    "shapes swapped", "several and a clip", "header", "a clip", "count", "damaged new sheet", "px length", "scratch length",
+    "damaged old sheet", "another old sheet",
 ];
 const MOVED: usize = 0;
 const RECOLOURED: usize = 1;
 const RESIZED: usize = 2;
 const A_BIT: usize = 3;
 const ANOTHER: usize = 4;
-const SAME: usize = 5;
-const SEVERAL: usize = 6;
-const SWAPPED: usize = 7;
-const SEVERAL_AND_CLIP: usize = 8;
-const HEADER: usize = 9;
-const CLIP: usize = 10;
-const COUNT: usize = 11;
-pub const DAMAGED_NEW: usize = 12;
-pub const PX: usize = 13;
-pub const SCRATCH: usize = 14;
+const GROWN: usize = 5;
+/// The ways before this one alter one shape.
+pub const ONE_SHAPE: usize = 6;
+const SAME: usize = 6;
+const SEVERAL: usize = 7;
+const SWAPPED: usize = 8;
+const SEVERAL_AND_CLIP: usize = 9;
+const HEADER: usize = 10;
+const CLIP: usize = 11;
+const COUNT: usize = 12;
+pub const DAMAGED_NEW: usize = 13;
+pub const PX: usize = 14;
+pub const SCRATCH: usize = 15;
 /// From here on the old sheet is not the kept one, so the call is none of the list's.
-pub const APART: usize = 15;
-pub const DAMAGED_OLD: usize = 15;
+pub const APART: usize = 16;
+pub const DAMAGED_OLD: usize = 16;
+
+/// What a shape among several is altered by.
+const EACH: [usize; 5] = [MOVED, RECOLOURED, RESIZED, ANOTHER, GROWN];
 
 fn put(b: &mut [u8], at: usize, x: f32) {
     if x.abs() <= 8192.0 {
@@ -49,10 +56,11 @@ fn moved(b: &mut [u8], random: &mut Random) {
     let own: Vec<usize> = match b[0] {
         5 => vec![4, 8, 12, 16],
         6 => (32..b.len()).step_by(4).collect(),
+        8 => (12..b.len()).step_by(4).collect(),
         _ => vec![4, 8],
     };
     for (i, at) in own.into_iter().enumerate() {
-        put(b, at, crate::float(b, at) + step[i % 2]);
+        put(b, at, float(b, at) + step[i % 2]);
     }
 }
 
@@ -61,6 +69,7 @@ fn recoloured(b: &mut [u8], random: &mut Random) {
     let at = match paint_at(b[0]) {
         Some(at) if b[at] == 0 => at + 4,
         Some(at) => at + random.of(&[4, 8]),
+        None if b[0] == 8 => CHAIN_COLOUR,
         None => b.len() - 4,
     };
     let any = random.word() as u8;
@@ -69,21 +78,31 @@ fn recoloured(b: &mut [u8], random: &mut Random) {
 
 /// Alters one float: to another size, or by a bit.
 fn resized(b: &mut [u8], random: &mut Random, by_a_bit: bool) {
-    let places = floats(b);
-    if places.is_empty() {
-        return;
-    }
-    let at = random.of(&places);
-    let x = crate::float(b, at);
+    let Some(at) = a_float(b, random) else { return };
+    let x = float(b, at);
     let near = f32::from_bits(x.to_bits() ^ 1 << random.of(&[0, 0, 1, 22, 31]));
     let other = x + random.within(-8.0, 8.0);
     put(b, at, if by_a_bit { near } else { random.of(&[x * 2.0, x * 0.5, other, 0.0]) });
 }
 
-/// A shape, mostly one that reaches into the canvas; or a clip's push or pop.
-fn at<'a>(made: &'a mut Made, random: &mut Random, shapes: bool) -> Option<&'a mut Vec<u8>> {
+/// A chain with one point more at its end, not far from the last, or one fewer, as a weight trace grows.
+fn grown(b: &mut Vec<u8>, random: &mut Random) {
+    let (m, end) = (half(b, 2), b.len());
+    let fewer = random.below(4) < if m == MOST_POINTS { 3 } else { 1 };
+    if fewer && m > 0 {
+        b.truncate(end - 8);
+    } else {
+        let last = if m > 0 { [float(b, end - 8), float(b, end - 4)] } else { [4.0; 2] };
+        b.extend(last.iter().flat_map(|x| (x + random.within(-6.0, 6.0)).clamp(-8192.0, 8192.0).to_le_bytes()));
+    }
+    let m = (b.len() - 12) / 8;
+    b[2..4].copy_from_slice(&(m as u16).to_le_bytes());
+}
+
+/// An item of a kind that fits, mostly one that reaches into the canvas.
+fn at<'a>(made: &'a mut Made, random: &mut Random, fits: impl Fn(u8) -> bool) -> Option<&'a mut Vec<u8>> {
     let canvas = IRect::new(0, 0, made.w as i32, made.h as i32);
-    let mut fit: Vec<usize> = (0..made.items.len()).filter(|i| (made.items[*i][0] > 2) == shapes).collect();
+    let mut fit: Vec<usize> = (0..made.items.len()).filter(|i| fits(made.items[*i][0])).collect();
     let inside: Vec<usize> = fit.iter().copied().filter(|i| !Item::of(&made.items[*i]).reach().intersect(&canvas).is_empty()).collect();
     if !inside.is_empty() && random.below(8) > 0 {
         fit = inside;
@@ -93,7 +112,8 @@ fn at<'a>(made: &'a mut Made, random: &mut Random, shapes: bool) -> Option<&'a m
 
 fn one_shape(made: &mut Made, random: &mut Random, way: usize) {
     let (sides, canvas) = (made.sides(), IRect::new(0, 0, made.w as i32, made.h as i32));
-    let Some(b) = at(made, random, true) else { return };
+    let chains = way == GROWN && made.items.iter().any(|b| b[0] == 8);
+    let Some(b) = at(made, random, |kind| if chains { kind == 8 } else { kind > 2 }) else { return };
     alter(b, sides, canvas, random, way);
 }
 
@@ -107,7 +127,7 @@ fn several(made: &mut Made, random: &mut Random) {
         places.swap_remove(random.below(places.len() as u32) as usize);
     }
     for i in places {
-        let way = random.of(&[MOVED, RECOLOURED, RESIZED, ANOTHER]);
+        let way = random.of(&EACH);
         alter(&mut made.items[i], sides, canvas, random, way);
     }
 }
@@ -121,22 +141,23 @@ fn swapped(made: &mut Made, random: &mut Random) {
     }
 }
 
-/// Alters one shape in a way. One that has nothing on the canvas is mostly replaced.
+/// Alters one shape in a way. A shape that has nothing on the canvas is mostly replaced; one that is to grow and is no chain, always.
 fn alter(b: &mut Vec<u8>, sides: [i32; 2], canvas: IRect, random: &mut Random, way: usize) {
-    let lost = Item::of(b).reach().intersect(&canvas).is_empty() && random.below(4) > 0;
+    let lost = way != GROWN && Item::of(b).reach().intersect(&canvas).is_empty() && random.below(4) > 0;
     match if lost { ANOTHER } else { way } {
         MOVED => moved(b, random),
         RECOLOURED => recoloured(b, random),
         RESIZED => resized(b, random, false),
         A_BIT => resized(b, random, true),
-        _ => *b = shape(3 + random.below(5) as u8, random, sides, 64),
+        GROWN if b[0] == 8 => grown(b, random),
+        _ => *b = shape(any_kind(random), random, sides, 64),
     }
 }
 
 fn clip(made: &mut Made, random: &mut Random) {
     let sides = made.sides();
     let (shapes, other) = (random.below(3) == 0, random.below(3));
-    let Some(b) = at(made, random, shapes) else { return };
+    let Some(b) = at(made, random, |kind| (kind > 2) == shapes) else { return };
     *b = match other {
         0 => push(random, sides),
         1 => pop(),
@@ -148,7 +169,7 @@ fn clip(made: &mut Made, random: &mut Random) {
 pub fn changed(kept: &Made, random: &mut Random, way: usize) -> Made {
     let mut made = kept.clone();
     match way {
-        MOVED..=ANOTHER => one_shape(&mut made, random, way),
+        MOVED..ONE_SHAPE => one_shape(&mut made, random, way),
         SAME => (),
         SEVERAL => several(&mut made, random),
         SWAPPED => swapped(&mut made, random),
@@ -172,7 +193,7 @@ pub fn changed(kept: &Made, random: &mut Random, way: usize) -> Made {
         }
         _ => {
             if random.below(2) == 0 {
-                let way = random.of(&[MOVED, RECOLOURED, RESIZED, ANOTHER]);
+                let way = random.of(&EACH);
                 one_shape(&mut made, random, way);
             }
         }
@@ -185,7 +206,7 @@ pub fn way(random: &mut Random) -> usize {
     match random.below(6) {
         0 | 1 => random.below(WAYS.len() as u32) as usize,
         2 => SEVERAL,
-        _ => random.below(5) as usize,
+        _ => random.below(ONE_SHAPE as u32) as usize,
     }
 }
 

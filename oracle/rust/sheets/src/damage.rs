@@ -1,8 +1,8 @@
 //! What can be wrong with a sheet, each way by itself or several at once.
 use crate::{
     half,
-    item::{floats, number, paint_at, zeros},
-    make::{any_shape, polygon, push, shape},
+    item::{number, paint_at, zeros},
+    make::{a_float, any_shape, chain, polygon, push, shape},
     Made, LONGEST, MOST_ITEMS, MOST_POINTS, MOST_SAVED,
 };
 use answers::random::Random;
@@ -46,8 +46,8 @@ fn place(made: &mut Made, random: &mut Random, kinds: &[u8]) -> usize {
     at
 }
 
-const SHAPES: [u8; 5] = [3, 4, 5, 6, 7];
-const ALL: [u8; 7] = [1, 2, 3, 4, 5, 6, 7];
+const SHAPES: [u8; 6] = [3, 4, 5, 6, 7, 8];
+const ALL: [u8; 8] = [1, 2, 3, 4, 5, 6, 7, 8];
 
 fn set(b: &mut [u8], at: usize, value: u8) {
     if let Some(was) = b.get_mut(at) {
@@ -55,29 +55,45 @@ fn set(b: &mut [u8], at: usize, value: u8) {
     }
 }
 
+/// An item cut, or longer or shorter by a byte; or a polygon or chain that says a point more or fewer than it has.
+fn wrong_length(made: &mut Made, random: &mut Random) {
+    let says = random.below(4) == 0;
+    let at = place(made, random, if says { &[6, 8] } else { &ALL });
+    let b = &mut made.items[at];
+    match random.below(3) {
+        _ if says && b.len() >= 4 => {
+            let m = half(b, 2) as u16;
+            put(b, 2, random.of(&[m.wrapping_add(1), m.wrapping_sub(1)]));
+        }
+        0 => b.truncate(random.below(6) as usize),
+        1 => b.push(0),
+        _ => _ = b.pop(),
+    }
+}
+
+/// More clips saved, or more points, than may be, or just as many.
+fn too_many(made: &mut Made, random: &mut Random) {
+    let (sides, at) = (made.sides(), random.below(made.items.len() as u32 + 1) as usize);
+    let m = MOST_POINTS + random.of(&[0, 1, 1, 1, 2, 40]);
+    match random.below(6) {
+        0 => made.items.insert(at, polygon(random, sides, m)),
+        1 => made.items.insert(at, chain(random, sides, m)),
+        _ => {
+            let many = MOST_SAVED + random.of(&[0, 1, 1, 2]);
+            (0..many).for_each(|_| made.items.insert(at, push(random, sides)));
+        }
+    }
+}
+
 /// Wrong in an item, the pairs running as they must.
 fn in_item(made: &mut Made, random: &mut Random) {
     let any = byte(random);
+    let at = place(made, random, &ALL);
     match random.below(12) {
-        0 => {
-            let at = place(made, random, &ALL);
-            made.items[at][0] = random.of(&[0, 8, 9, 255, any]);
-        }
-        1 => {
-            let at = place(made, random, &ALL);
-            made.items[at][0] = 1 + any % 7;
-        }
-        2 => {
-            let at = place(made, random, &ALL);
-            let b = &mut made.items[at];
-            match random.below(3) {
-                0 => b.truncate(random.below(6) as usize),
-                1 => b.push(0),
-                _ => _ = b.pop(),
-            }
-        }
+        0 => made.items[at][0] = random.of(&[0, 9, 10, 255, any]),
+        1 => made.items[at][0] = 1 + any % 8,
+        2 => wrong_length(made, random),
         3 | 4 => {
-            let at = place(made, random, &ALL);
             let b = &mut made.items[at];
             if number(b) == 0 {
                 let zero = random.of(&zeros(b));
@@ -96,21 +112,12 @@ fn in_item(made: &mut Made, random: &mut Random) {
         7 | 8 => {
             let at = place(made, random, &SHAPES);
             let b = &mut made.items[at];
-            if number(b) == 0 && !floats(b).is_empty() {
-                let at = random.of(&floats(b));
+            let float = if number(b) == 0 { a_float(b, random) } else { None };
+            if let Some(at) = float {
                 b[at..at + 4].copy_from_slice(&wide(random).to_le_bytes());
             }
         }
-        9 | 10 => {
-            let (sides, at) = (made.sides(), random.below(made.items.len() as u32 + 1) as usize);
-            let many = MOST_SAVED + random.of(&[0, 1, 1, 2]);
-            (0..many).for_each(|_| made.items.insert(at, push(random, sides)));
-        }
-        _ => {
-            let (sides, at) = (made.sides(), random.below(made.items.len() as u32 + 1) as usize);
-            let m = MOST_POINTS + random.of(&[0, 1, 1, 1, 2, 40]);
-            made.items.insert(at, polygon(random, sides, m));
-        }
+        _ => too_many(made, random),
     }
 }
 

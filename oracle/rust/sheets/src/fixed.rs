@@ -1,7 +1,8 @@
-//! The sheets and patches that document 01 gives as examples, the largest of their kinds, and the edges of request 2026-01.
+//! The sheets and patches that document 01 gives as examples, the largest of their kinds, and the edges of requests 2026-01 and 2026-04.
 use crate::{
+    fixed_chains,
     make::{bytes, pop},
-    Made, LONGEST,
+    Expected, Made, LONGEST,
 };
 
 /// A painting: sheet, px and scratch words lent, and the number and item that document 01 gives.
@@ -42,7 +43,7 @@ pub fn red(x: f32) -> Vec<u8> {
     made(4, 1, vec![fill(x, 0.0, 1.0, 1.0, RED)]).bytes()
 }
 
-fn with(mut sheet: Vec<u8>, at: usize, value: u8) -> Vec<u8> {
+pub fn with(mut sheet: Vec<u8>, at: usize, value: u8) -> Vec<u8> {
     sheet[at] = value;
     sheet
 }
@@ -91,6 +92,7 @@ pub fn paintings() -> Vec<Painting> {
     add("too_long", [long, vec![0]].concat(), 4, 100, 1, 0);
     add("items_1024", pops(1024), 4, 0, 0, 0);
     add("items_1025", pops(1025), 4, 0, 2, 0);
+    all.extend(fixed_chains::paintings());
     all
 }
 
@@ -146,6 +148,7 @@ pub fn patches() -> Vec<Patch> {
     add(many(33, 0.0, 0.0), many(33, 2.0, 0.0), 3, 0, 14, 0, [0; 4]);
     let triangle = |x: f32| made(4, 4, vec![polygon(&[-1994.0, 1.0, x, 1.0, x, 1999.0], RED)]).bytes();
     add(triangle(4.5), triangle(5.0), 16, 0, 0, 0, [0; 4]);
+    all.extend(fixed_chains::patches());
     all
 }
 
@@ -159,10 +162,19 @@ pub fn check() {
         let a = crate::patch(&p.old, &p.new, p.px, p.scratch).answer;
         assert_eq!((a.number, a.item, [a.x0, a.y0, a.x1, a.y1]), (p.number, p.item, p.area), "patch {i}");
     }
-    let left = |expected: crate::Expected, before: &[u32]| expected.pixels(before, expected.fresh().as_deref());
-    let painted = |p: &Painting| left(crate::paint(&p.sheet, p.px, p.scratch), &vec![0xffff_ffff; p.px]);
     assert_eq!(painted(&paintings()[0]), [0x00ff_0000, 0, 0, 0]);
     assert_eq!(painted(&paintings()[1]), [0x0080_8080; 2]);
     let patched = left(crate::patch(&red(0.0), &red(2.0), 4, 0), &[0x00ff_0000, 0, 0, 0]);
     assert_eq!(patched, [0, 0, 0x00ff_0000, 0]);
+    fixed_chains::check();
+}
+
+/// The pixels that a call leaves.
+fn left(expected: Expected, before: &[u32]) -> Vec<u32> {
+    expected.pixels(before, expected.fresh().as_deref())
+}
+
+/// The pixels that a painting leaves, all bits set before it.
+pub fn painted(p: &Painting) -> Vec<u32> {
+    left(crate::paint(&p.sheet, p.px, p.scratch), &vec![0xffff_ffff; p.px])
 }

@@ -16,9 +16,14 @@ pub enum Item {
     Line { a: Pt, b: Pt, width: f32, ink: Color },
     Polygon { paint: Paint, points: Vec<Pt> },
     Shadow { rect: Rect, r: f32, blur: f32, ink: Color, skip: bool },
+    Chain { width: f32, ink: Color, points: Vec<Pt> },
 }
 
 pub const EMPTY: IRect = IRect { x0: 0, y0: 0, x1: 0, y1: 0 };
+
+/// Where a chain has its width, and its colour.
+pub const CHAIN_WIDTH: usize = 4;
+pub const CHAIN_COLOUR: usize = 8;
 
 /// The length that an item of a kind has; none for an unknown kind.
 pub fn length(kind: u8, m: usize) -> Option<usize> {
@@ -29,7 +34,8 @@ pub fn length(kind: u8, m: usize) -> Option<usize> {
         4 | 7 => Some(32),
         5 => Some(28),
         6 => Some(32 + 8 * m),
-        0 | 8..=255 => None,
+        8 => Some(12 + 8 * m),
+        0 | 9..=255 => None,
     }
 }
 
@@ -50,7 +56,7 @@ fn paint_floats(kind: u8) -> usize {
 /// The places that must hold a zero byte, in an item of the right length.
 pub fn zeros(b: &[u8]) -> Vec<usize> {
     let mut places = match b[0] {
-        6 => vec![1],
+        6 | 8 => vec![1],
         7 => vec![2, 3],
         _ => vec![1, 2, 3],
     };
@@ -74,9 +80,13 @@ pub fn floats(b: &[u8]) -> Vec<usize> {
         4 | 7 => 4..28,
         5 => 4..24,
         6 => 32..b.len(),
+        8 => 12..b.len(),
         _ => 0..0,
     };
     let mut places: Vec<usize> = own.step_by(4).collect();
+    if b[0] == 8 {
+        places.push(CHAIN_WIDTH);
+    }
     if let Some(at) = paint_at(b[0]) {
         places.extend((0..paint_floats(b[at])).map(|i| at + 12 + 4 * i));
     }
@@ -88,7 +98,7 @@ pub fn number(b: &[u8]) -> u32 {
     if b.len() < 4 || length(b[0], half(b, 2)) != Some(b.len()) {
         return 4;
     }
-    if b[0] == 6 && half(b, 2) > MOST_POINTS {
+    if (b[0] == 6 || b[0] == 8) && half(b, 2) > MOST_POINTS {
         return 13;
     }
     let kind_over = paint_at(b[0]).is_some_and(|at| b[at] > 3);
@@ -105,6 +115,11 @@ fn color(b: &[u8], at: usize) -> Color {
 
 fn pt(b: &[u8], at: usize) -> Pt {
     Pt::new(float(b, at), float(b, at + 4))
+}
+
+/// The points of a polygon or a chain, the first of which stands at a place.
+fn points(b: &[u8], at: usize) -> Vec<Pt> {
+    (0..half(b, 2)).map(|i| pt(b, at + 8 * i)).collect()
 }
 
 fn rect(b: &[u8], at: usize) -> Rect {
@@ -130,7 +145,8 @@ impl Item {
             3 => Item::Fill { rect: rect(b, 4), r: float(b, 20), paint: paint(b, 24) },
             4 => Item::Stroke { rect: rect(b, 4), r: float(b, 20), width: float(b, 24), ink: color(b, 28) },
             5 => Item::Line { a: pt(b, 4), b: pt(b, 12), width: float(b, 20), ink: color(b, 24) },
-            6 => Item::Polygon { paint: paint(b, 4), points: (0..half(b, 2)).map(|i| pt(b, 32 + 8 * i)).collect() },
+            6 => Item::Polygon { paint: paint(b, 4), points: points(b, 32) },
+            8 => Item::Chain { width: float(b, CHAIN_WIDTH), ink: color(b, CHAIN_COLOUR), points: points(b, 12) },
             _ => Item::Shadow { rect: rect(b, 4), r: float(b, 20), blur: float(b, 24), ink: color(b, 28), skip: b[1] == 1 },
         }
     }
@@ -148,6 +164,7 @@ impl Item {
             Item::Line { a, b, width, ink } => canvas.line(*a, *b, *width, *ink),
             Item::Polygon { paint, points } => canvas.fill_poly(points, *paint),
             Item::Shadow { rect, r, blur, ink, skip } => canvas.shadow_rrect(*rect, *r, *blur, *ink, *skip),
+            Item::Chain { width, ink, points } => canvas.polyline(points, *width, *ink),
         }
     }
 
@@ -158,11 +175,8 @@ impl Item {
             Item::Fill { rect, .. } => IRect::from_rect_outer(rect),
             Item::Stroke { rect, ink, .. } if rect.w <= 0.0 || rect.h <= 0.0 || ink.a == 0 => EMPTY,
             Item::Stroke { rect, .. } => IRect::from_rect_outer(rect),
-            Item::Line { a, b, width, .. } => {
-                let pad = width * 0.5 + 1.0;
-                let (x, y) = (a.x.min(b.x) - pad, a.y.min(b.y) - pad);
-                IRect::from_rect_outer(&Rect::new(x, y, (a.x - b.x).abs() + 2.0 * pad, (a.y - b.y).abs() + 2.0 * pad))
-            }
+            Item::Line { a, b, width, .. } => line_reach(a, b, *width),
+            Item::Chain { width, points, .. } => points.windows(2).map(|ends| line_reach(&ends[0], &ends[1], *width)).fold(EMPTY, around),
             Item::Polygon { points, .. } => match cells(points) {
                 Some((ox, oy, bw, bh)) => IRect::new(ox, oy, ox + bw as i32, oy + bh as i32),
                 None => EMPTY,
@@ -180,6 +194,23 @@ impl Item {
             _ => 0,
         }
     }
+}
+
+/// The smallest box around both, an empty one counting for nothing; four zeros where both are empty.
+pub fn around(a: IRect, b: IRect) -> IRect {
+    match (a.is_empty(), b.is_empty()) {
+        (true, true) => EMPTY,
+        (true, false) => b,
+        (false, true) => a,
+        (false, false) => IRect::new(a.x0.min(b.x0), a.y0.min(b.y0), a.x1.max(b.x1), a.y1.max(b.y1)),
+    }
+}
+
+/// The box around a line's padded rectangle.
+fn line_reach(a: &Pt, b: &Pt, width: f32) -> IRect {
+    let pad = width * 0.5 + 1.0;
+    let (x, y) = (a.x.min(b.x) - pad, a.y.min(b.y) - pad);
+    IRect::from_rect_outer(&Rect::new(x, y, (a.x - b.x).abs() + 2.0 * pad, (a.y - b.y).abs() + 2.0 * pad))
 }
 
 /// The first column and row of a polygon's cells, and how many columns and rows; none where it paints nothing.

@@ -1,8 +1,10 @@
 //! The sheet and its patch as document 01 gives them, read in plain Rust apart from the proved crates and painted on the unchanged Rust
 //! canvas; and the sheets, damaged ones included, and patches that the proved library is held to.
+pub mod chains;
 pub mod change;
 pub mod damage;
 pub mod fixed;
+pub mod fixed_chains;
 pub mod item;
 pub mod make;
 pub mod model;
@@ -10,6 +12,7 @@ pub mod orders;
 pub mod sheet;
 pub mod text;
 
+pub use chains::Chains;
 pub use item::Item;
 pub use make::Made;
 pub use model::{paint, patch, Answer, Expected};

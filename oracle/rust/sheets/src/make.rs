@@ -1,8 +1,11 @@
 //! Random sheets, as parts that can be altered: sides, ground and the bytes of each item.
-use crate::{item, Sheet, LONGEST, MOST_ITEMS, MOST_SAVED};
+use crate::{
+    item::{floats, number, CHAIN_WIDTH},
+    Sheet, LONGEST, MOST_ITEMS, MOST_SAVED,
+};
 use answers::{
     random::Random,
-    shape::{call, Call},
+    shape::{call, place, Call, POLYLINE},
 };
 
 #[derive(Clone, Debug)]
@@ -63,7 +66,7 @@ fn paint(call: &Call) -> Vec<u8> {
     b
 }
 
-/// The item of a call of `line`, `stroke_rrect`, `fill_rrect`, `fill_poly` or `shadow_rrect`.
+/// The item of a call of `line`, `polyline`, `stroke_rrect`, `fill_rrect`, `fill_poly` or `shadow_rrect`.
 fn of_call(call: &Call) -> Vec<u8> {
     let (ink, mut floats) = (call.colours[0].to_le_bytes(), call.coords.clone());
     match call.f {
@@ -77,13 +80,48 @@ fn of_call(call: &Call) -> Vec<u8> {
             let [low, high] = (floats.len() as u16 / 2).to_le_bytes();
             [vec![6, 0, low, high], paint(call), bytes([0; 4], &floats)[4..].to_vec()].concat()
         }
+        POLYLINE => {
+            let [low, high] = (floats.len() as u16 / 2).to_le_bytes();
+            [bytes([8, 0, low, high], &[call.width]), ink.to_vec(), bytes([0; 4], &floats)[4..].to_vec()].concat()
+        }
         _ => [bytes([7, call.kind as u8, 0, 0], &[&floats[..], &[call.r, call.width]].concat()), ink.to_vec()].concat(),
     }
 }
 
-/// A shape of a kind 3 to 7 near a canvas; a polygon of at most `most` points.
+/// A shape of a kind 3 to 8 near a canvas; a polygon or a chain of at most `most` points.
 pub fn shape(kind: u8, random: &mut Random, sides: [i32; 2], most: u32) -> Vec<u8> {
+    if kind == 8 {
+        let (few, any) = (random.below(most.min(8) + 1), random.below(most + 1));
+        let m = random.of(&[0, 1, 2, 2, most, few, few, few, any, any]).min(most);
+        return chain(random, sides, m as usize);
+    }
     of_call(&call([5, 3, 1, 8, 9][kind as usize - 3], random, sides, most))
+}
+
+/// The points of a chain: anywhere, or a walk of short steps; in one of four the second half goes back the way that the first came.
+fn walk(random: &mut Random, sides: [i32; 2], m: usize) -> Vec<f32> {
+    let (far, short, back) = (random.below(4) == 0, random.below(2) == 0, random.below(4) == 0);
+    let mut coords: Vec<f32> = (0..2 * m).map(|i| place(random, sides[i % 2], far)).collect();
+    for i in (2..2 * m).filter(|_| short) {
+        coords[i] = (coords[i - 2] + random.within(-3.0, 3.0)).clamp(-8192.0, 8192.0);
+    }
+    for i in (0..m / 2).filter(|_| back) {
+        coords.copy_within(2 * i..2 * i + 2, 2 * (m - 1 - i));
+    }
+    coords
+}
+
+/// A chain of m points near a canvas.
+pub fn chain(random: &mut Random, sides: [i32; 2], m: usize) -> Vec<u8> {
+    let mut made = call(POLYLINE, random, sides, 6);
+    made.coords = walk(random, sides, m);
+    match random.below(12) {
+        0 => made.width = random.within(-1.0, 0.0),
+        1 => made.width = random.within(-8.0, -1.0),
+        2..=4 => made.colours[0] = made.colours[0] & 0x00ff_ffff | 128 << 24,
+        _ => (),
+    }
+    of_call(&made)
 }
 
 /// A polygon of m points near a canvas.
@@ -109,10 +147,25 @@ pub fn limit_polygon(random: &mut Random) -> Vec<u8> {
     of_call(&made)
 }
 
+/// A kind of shape: a chain in one of three.
+pub fn any_kind(random: &mut Random) -> u8 {
+    random.of(&[3, 3, 4, 5, 5, 6, 6, 7, 8, 8, 8, 8])
+}
+
 /// A shape of any kind; in a sheet whose polygons may have many points, one in 4,000 is a polygon of the most cells.
 pub fn any_shape(random: &mut Random, sides: [i32; 2], most: u32) -> Vec<u8> {
-    let kind = random.of(&[3, 3, 3, 4, 5, 5, 6, 6, 7]);
+    let kind = any_kind(random);
     if most > 8 && random.below(4_000) == 0 { limit_polygon(random) } else { shape(kind, random, sides, most) }
+}
+
+/// The place of a float of an item, if it has one; of a chain's, its width in one of two.
+pub fn a_float(b: &[u8], random: &mut Random) -> Option<usize> {
+    let places = floats(b);
+    match b[0] {
+        8 if random.below(2) == 0 => Some(CHAIN_WIDTH),
+        _ if places.is_empty() => None,
+        _ => Some(random.of(&places)),
+    }
 }
 
 pub fn push(random: &mut Random, sides: [i32; 2]) -> Vec<u8> {
@@ -169,7 +222,7 @@ pub fn sheet(random: &mut Random, small: u32, most: u32) -> Made {
     on(random, sides, n, 64)
 }
 
-/// A sheet of n items that is accepted, on a canvas of the sides given; its polygons have up to `points` points.
+/// A sheet of n items that is accepted, on a canvas of the sides given; its polygons and chains have up to `points` points.
 pub fn on(random: &mut Random, [w, h]: [u16; 2], n: usize, points: u32) -> Made {
     let ground = if random.below(4) == 0 { [0; 3] } else { [random.word() as u8, random.word() as u8, random.word() as u8] };
     let mut made = Made { w, h, ground, items: vec![] };
@@ -180,7 +233,7 @@ pub fn on(random: &mut Random, [w, h]: [u16; 2], n: usize, points: u32) -> Made 
             0..=9 if depth < MOST_SAVED => push(random, made.sides()),
             10..=13 => pop(),
             14..=16 if !deep => pop(),
-            _ if n > 200 => shape(4 + (made.items.len() % 2) as u8, random, made.sides(), 6),
+            _ if n > 200 => shape([4, 5, 8][made.items.len() % 3], random, made.sides(), 3),
             _ => any_shape(random, made.sides(), points),
         };
         match item[0] {
@@ -188,7 +241,7 @@ pub fn on(random: &mut Random, [w, h]: [u16; 2], n: usize, points: u32) -> Made 
             2 if depth > 0 => depth -= 1,
             _ => (),
         }
-        debug_assert_eq!(item::number(&item), 0);
+        debug_assert_eq!(number(&item), 0);
         made.items.push(item);
     }
     debug_assert!(made.bytes().len() <= LONGEST);

@@ -1,5 +1,8 @@
 //! What painting and patching answer, and what they leave of scratch and pixels, by document 01 and request 2026-01.
-use crate::{item::EMPTY, Fault, Sheet, MOST_CHANGES};
+use crate::{
+    item::{around, EMPTY},
+    Fault, Sheet, MOST_CHANGES,
+};
 use kash::geom::IRect;
 
 /// What a sheet call returns, as the library returns it.
@@ -74,16 +77,6 @@ pub fn paint(bytes: &[u8], px: usize, scratch: usize) -> Expected {
             let canvas = IRect::new(0, 0, sheet.w as i32, sheet.h as i32);
             lent(sheet, canvas, px, scratch)
         }
-    }
-}
-
-/// The smallest box around both, an empty one counting for nothing; four zeros where both are empty.
-fn around(a: IRect, b: IRect) -> IRect {
-    match (a.is_empty(), b.is_empty()) {
-        (true, true) => EMPTY,
-        (true, false) => b,
-        (false, true) => a,
-        (false, false) => IRect::new(a.x0.min(b.x0), a.y0.min(b.y0), a.x1.max(b.x1), a.y1.max(b.y1)),
     }
 }
 

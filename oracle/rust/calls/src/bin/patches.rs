@@ -1,11 +1,12 @@
 //! Lists of patches after an accepted painting, beside the unchanged Rust: `patches CALLS`, or `patches list N` for one list of them.
 //! After each call every pixel must be that of the sheet accepted last, painted afresh. Exit status 1 where anything differs, or where a
-//! number of documents 01 and 02, a way of altering a sheet or a number of differing shapes comes too seldom.
+//! number of documents 01 and 02, a way of altering a sheet, a number of differing shapes or a pair with a chain comes too seldom.
 use answers::random::{Random, SEED};
 use calls::{dirty, enough, fault, Memory, Numbers, TOLD};
 use sheets::{
+    chains::unseen,
     change::{self, APART, PX, SCRATCH, WAYS},
-    fixed, make, paint, patch, Made, Sheet,
+    fixed, make, paint, patch, Chains, Made, Sheet,
 };
 use std::{env, process::exit, time::Instant};
 
@@ -13,9 +14,8 @@ use std::{env, process::exit, time::Instant};
 const SETS: [(usize, &str); 7] = [(0, "none"), (1, "one"), (2, "2 to 15"), (16, "16 to 31"), (32, "32"), (33, "33"), (34, "34 to 40")];
 
 /// The number of items that differ in two sheets of one count.
-fn differing(old: &[u8], new: &[u8]) -> usize {
-    let items = |bytes: &[u8]| Made::of(&Sheet::read(bytes).expect("a sound sheet")).items;
-    items(old).iter().zip(&items(new)).filter(|(a, b)| a != b).count()
+fn differing(old: &Sheet, new: &Sheet) -> usize {
+    old.items.iter().zip(&new.items).filter(|(a, b)| a.1 != b.1).count()
 }
 
 #[derive(Default)]
@@ -27,6 +27,7 @@ struct Run {
     empty: u64,
     /// Accepted patches, and patches refused by 14, by how many shapes differ, in the order of `SETS`.
     sets: [u64; SETS.len()],
+    chains: Chains,
     paintings: u64,
     calls: u64,
     differ: u64,
@@ -84,10 +85,7 @@ impl Run {
         let after = expected.pixels(&px, fresh.as_deref());
         let left = self.memory.call(Some(&old), &new, &px, &scratch, random);
         self.count(way, &expected.answer);
-        if [0, 14].contains(&expected.answer.number) {
-            let n = differing(&old, &new);
-            self.sets[SETS.iter().rposition(|(from, _)| *from <= n).expect("0 is the first")] += 1;
-        }
+        self.count_pairs(&old, &new, expected.answer.number);
         if let Some(what) = fault(&left, &expected, &after, &scratch) {
             self.differs(name, what, format!("{:?} instead of {:?}\n  old {old:02x?}\n  new {new:02x?}", left.answer, expected.answer));
         }
@@ -116,6 +114,44 @@ impl Run {
         }
         self.accepted[way] += 1;
         self.empty += (answer.x1 == 0) as u64;
+    }
+
+    /// Which items differ, in a patch that was accepted or refused by 14.
+    fn count_pairs(&mut self, old: &[u8], new: &[u8], number: u32) {
+        if [0, 14].contains(&number) {
+            let [old, new] = [old, new].map(|bytes| Sheet::read(bytes).expect("a sound sheet"));
+            let n = differing(&old, &new);
+            self.sets[SETS.iter().rposition(|(from, _)| *from <= n).expect("0 is the first")] += 1;
+            if number == 0 {
+                self.chains.painted(&new);
+                self.chains.patched(&old, &new);
+            }
+        }
+    }
+
+    /// Prints the counts of a long run, and what came too seldom; answers whether anything did.
+    fn lacks(&self, calls: u64) -> bool {
+        let told = calls >= TOLD;
+        for (way, name) in WAYS.iter().enumerate().filter(|_| told) {
+            println!("{name:18} {:>9} accepted, {:>9} refused", self.accepted[way], self.refused[way]);
+        }
+        for ((_, name), times) in SETS.iter().zip(self.sets).filter(|_| told) {
+            println!("{name:>8} shapes differ {times:>9} times");
+        }
+        let mut seldom = self.numbers.report(&[1, 2, 3, 4, 5, 6, 7, 8, 9, 10, 13], calls / 2000, told);
+        seldom.extend(self.numbers.report(&[14], calls / 1000, false));
+        if told {
+            println!("accepted with an empty box {} times", self.empty);
+        }
+        if !seldom.is_empty() {
+            println!("too seldom: numbers {seldom:?}");
+        }
+        let never = unseen(&self.chains.patches(), told);
+        if !never.is_empty() {
+            println!("chains never seen: {never:?}");
+        }
+        let unseen = (0..WAYS.len()).any(|way| self.accepted[way] + self.refused[way] == 0) || self.sets.contains(&0);
+        !seldom.is_empty() || !never.is_empty() || unseen
     }
 
     fn list(&mut self, n: u64, most: u64) {
@@ -167,24 +203,9 @@ fn main() {
             println!("{:>9} calls in {lists} lists, {} differences, {:.1} s", run.calls, run.differ, began.elapsed().as_secs_f64());
         }
     }
-    let told = calls >= TOLD;
-    for (way, name) in WAYS.iter().enumerate().filter(|_| told) {
-        println!("{name:18} {:>9} accepted, {:>9} refused", run.accepted[way], run.refused[way]);
-    }
-    for ((_, name), times) in SETS.iter().zip(run.sets).filter(|_| told) {
-        println!("{name:>8} shapes differ {times:>9} times");
-    }
-    let mut seldom = run.numbers.report(&[1, 2, 3, 4, 5, 6, 7, 8, 9, 10, 13], calls / 2000, told);
-    seldom.extend(run.numbers.report(&[14], calls / 1000, false));
-    if told {
-        println!("accepted with an empty box {} times", run.empty);
-    }
-    println!("patches: {} calls in {lists} lists, each after a painting, {} differences", run.calls, run.differ);
-    if !seldom.is_empty() {
-        println!("too seldom: numbers {seldom:?}");
-    }
-    let unseen = (0..WAYS.len()).any(|way| run.accepted[way] + run.refused[way] == 0) || run.sets.contains(&0);
-    if run.differ > 0 || !seldom.is_empty() || unseen {
+    let lacks = run.lacks(calls);
+    println!("patches: {} calls in {lists} lists, each after a painting, {}, {} differences", run.calls, run.chains.share(), run.differ);
+    if run.differ > 0 || lacks {
         exit(1);
     }
 }

@@ -1,8 +1,8 @@
 //! Painting random sheets, sound and damaged ones, beside the unchanged Rust: `sheets CASES`, or `sheets case N` for one case of it.
-//! Exit status 1 where anything differs, or where a number of document 01 comes too seldom.
+//! Exit status 1 where anything differs, where a number of document 01 comes too seldom, or a sort of chain never.
 use answers::random::{Random, SEED};
-use calls::{dirty, enough, fault, Memory, Numbers, TOLD};
-use sheets::{damage::damaged, fixed, make, paint, Sheet};
+use calls::{dirty, enough, fault, Memory, Numbers, TOLD, USUAL};
+use sheets::{chains::unseen, damage::damaged, fixed, make, paint, Chains, Sheet};
 use std::{env, process::exit, time::Instant};
 
 /// What a painting is given.
@@ -38,9 +38,11 @@ fn given(random: &mut Random) -> Given {
     Given { sheet: bytes, px, scratch }
 }
 
+#[derive(Default)]
 struct Run {
     memory: Memory,
     numbers: Numbers,
+    chains: Chains,
     differ: u64,
     pixels: u64,
 }
@@ -53,6 +55,10 @@ impl Run {
         let after = expected.pixels(&px, expected.fresh().as_deref());
         let left = self.memory.call(None, &given.sheet, &px, &scratch, random);
         self.numbers.add(expected.answer.number);
+        match &expected.sheet {
+            Some(sheet) => self.chains.painted(sheet),
+            None => self.chains.refused(&given.sheet, &expected.answer),
+        }
         self.pixels += after.len() as u64;
         if let Some(what) = fault(&left, &expected, &after, &scratch) {
             self.differ += 1;
@@ -69,7 +75,7 @@ fn main() {
     let number = |i: usize| words.get(i).and_then(|w| w.parse::<u64>().ok()).expect("usage: sheets CASES | sheets case N");
     let (from, to) = if words.first().is_some_and(|w| w == "case") { (number(1), number(1) + 1) } else { (0, number(0)) };
     fixed::check();
-    let mut run = Run { memory: Memory::default(), numbers: Numbers::default(), differ: 0, pixels: 0 };
+    let mut run = Run::default();
     let began = Instant::now();
     let examples = examples();
     for (i, given) in examples.iter().enumerate() {
@@ -83,14 +89,18 @@ fn main() {
             println!("{:>9} sheets, {} differences, {:.1} s", n + 1, run.differ, began.elapsed().as_secs_f64());
         }
     }
-    let cases = to - from + examples.len() as u64;
-    let least = (to - from) / 300;
-    let seldom = run.numbers.report(&[1, 2, 3, 4, 5, 6, 7, 8, 9, 13], least, to - from >= TOLD);
-    println!("sheets: {cases} cases, {} pixels, {} differences", run.pixels, run.differ);
+    let (cases, least, told) = (to - from + examples.len() as u64, (to - from) / 300, to - from >= TOLD);
+    let seldom = run.numbers.report(&[1, 2, 3, 4, 5, 6, 7, 8, 9, 13], least, told);
+    let never = unseen(&run.chains.paintings(), told);
+    println!("sheets: {cases} cases, {} pixels, {}, {} differences", run.pixels, run.chains.share(), run.differ);
     if !seldom.is_empty() {
         println!("less than {least} times: numbers {seldom:?}");
     }
-    if run.differ > 0 || !seldom.is_empty() {
+    let lacks = to - from >= USUAL && !never.is_empty();
+    if lacks {
+        println!("chains never seen: {never:?}");
+    }
+    if run.differ > 0 || !seldom.is_empty() || lacks {
         exit(1);
     }
 }

@@ -2,10 +2,10 @@
 //! shape, and a folder of four sheets, each with one shape other than in the one before. The smallest time of 200 rounds, the two in turn.
 //! The Rust draws items that were read before, on a canvas that is there. Then what a patch costs by the area of its box and by the number
 //! of items, what one patch of three shapes costs beside three patches of one, and what checking a sheet of about 60,000 bytes costs
-//! beside painting it.
+//! beside painting it; and what a weight trace costs as one chain beside the same lines as items.
 use calls::raw::{maldjupp_paint, maldjupp_patch};
 use kash::{color::Color, gfx::Canvas};
-use sheets::{patch, Answer, Sheet};
+use sheets::{fixed, fixed_chains::chain, make, paint, patch, Answer, Made, Sheet};
 use std::{env, fs, hint::black_box, time::Instant};
 
 const ROUNDS: usize = 200;
@@ -108,7 +108,8 @@ fn sets_by_items(ticket: &[Vec<u8>; 4]) {
     for n in [20, 60, 200, 1000] {
         row(&format!("{n} items"), &weighing(n));
     }
-    row("the ticket of 65 items", ticket);
+    let items = Sheet::read(&ticket[0]).expect("a sound sheet").items.len();
+    row(&format!("the ticket of {items} items"), ticket);
 }
 
 fn sizes() {
@@ -127,6 +128,66 @@ fn sizes() {
     let sheet = fills(1024, 32.0);
     let [painted, checked, _] = costs(&sheet, &sheet);
     println!("\n| sheet of {} bytes | µs |\n|---|---|\n| painted | {painted:.1} |\n| read and checked | {checked:.1}, {:.1} % |", sheet.len(), 100.0 * checked / painted);
+}
+
+/// A settling weight: 64 points over 372 × 160 pixels.
+fn points() -> Vec<f32> {
+    let at = |i: usize| {
+        let t = i as f32 / 63.0;
+        [6.0 + 372.0 * t, 168.0 - 120.0 * (1.0 - (-6.0 * t).exp() * (16.0 * t).cos())]
+    };
+    (0..64).flat_map(at).collect()
+}
+
+/// Two sheets 384 × 176 of the same pixels: a panel, a small square and a trace of m points, once as a chain and once as 63 lines, of which
+/// those past the last point have alpha 0.
+fn traced(m: usize, panel: u8, square: u8) -> [Vec<u8>; 2] {
+    let (points, ink) = (points(), |alpha| [36, 66, 104, alpha]);
+    let line = |i: usize| {
+        let ends = [&points[2 * i..2 * i + 4], &[3.0]].concat();
+        [make::bytes([5, 0, 0, 0], &ends), ink(if i + 1 < m { 255 } else { 0 }).to_vec()].concat()
+    };
+    let under = [fixed::fill(0.0, 0.0, 384.0, 176.0, [244, 246, panel, 255]), fixed::fill(40.0, 30.0, 32.0, 32.0, [232, 233, square, 255])];
+    let traces = [vec![chain(&points[..2 * m], 3.0, ink(255))], (0..63).map(line).collect()];
+    traces.map(|trace| Made { w: 384, h: 176, ground: [222, 219, 210], items: [&under[..], &trace].concat() }.bytes())
+}
+
+/// The smallest times of a call with the sheets as chain and as lines, in turn, each on the pixels of the old sheet; and what they return.
+fn beside(old: [Vec<u8>; 2], new: [Vec<u8>; 2], patched: bool) -> ([f64; 2], [Answer; 2]) {
+    let fresh = |sheet: &[u8]| Sheet::read(sheet).expect("a sound sheet").fresh();
+    let (before, after) = (fresh(&old[0]), fresh(&new[0]));
+    assert!(before == fresh(&old[1]) && after == fresh(&new[1]), "chain and lines have the same pixels");
+    let (mut px, m, none, mut least) = (before.clone(), before.len(), std::ptr::NonNull::<f32>::dangling().as_ptr(), [f64::MAX; 2]);
+    let answers = [0, 1].map(|i| if patched { patch(&old[i], &new[i], m, 0) } else { paint(&new[i], m, 0) }.answer);
+    for i in (0..2 * ROUNDS).map(|round| round % 2) {
+        px.copy_from_slice(&before);
+        let (old, new, p) = (&old[i], &new[i], px.as_mut_ptr());
+        micros(&mut least[i], || {
+            let answer = if patched {
+                unsafe { maldjupp_patch(old.as_ptr(), old.len(), new.as_ptr(), new.len(), p, m, none, 0) }
+            } else {
+                unsafe { maldjupp_paint(new.as_ptr(), new.len(), p, m, none, 0) }
+            };
+            assert_eq!(black_box(answer), answers[i]);
+        });
+        assert!(px == after);
+    }
+    (least, answers)
+}
+
+fn traces() {
+    println!("\n| chain of 64 points beside 63 line items | chain µs | lines µs | ratio | target |\n|---|---|---|---|---|");
+    let row = |name: &str, old, new, patched, target: &str| {
+        let ([chain, lines], areas) = beside(old, new, patched);
+        let [one, other] = areas.map(|a| format!("{} × {}", a.x1 - a.x0, a.y1 - a.y0));
+        let area = if one == other { one } else { format!("{one} beside {other}") };
+        println!("| {name} {area} | {chain:.1} | {lines:.1} | {:.2} | {target} |", chain / lines);
+    };
+    let whole = || traced(64, 248, 230);
+    row("painted,", whole(), whole(), false, "1.0");
+    row("patched, the panel beneath alters, box", whole(), traced(64, 240, 230), true, "1.0");
+    row("patched, a square beneath a part alters, box", whole(), traced(64, 248, 180), true, "1.0");
+    row("patched, the last point is added, box", traced(63, 248, 230), whole(), true, "");
 }
 
 fn main() {
@@ -159,4 +220,5 @@ fn main() {
     println!("| patched, box {w} × {h}; the Rust paints it anew | {patched:.0} | {rust:.0} | {:.2} |", patched / rust);
     sizes();
     sets_by_items(&settled);
+    traces();
 }
