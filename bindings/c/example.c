@@ -1,4 +1,4 @@
-/* Paints a small ticket, patches it, draws it call by call, takes every small clip order, and checks every answer.
+/* Paints a small ticket, patches it, draws it call by call, lets a trace grow, takes every small clip order, and checks every answer.
  *
  *   cc -std=c11 -Wall -Wextra -Werror -I bindings/c bindings/c/example.c -L target/staticlib -lmaldjupp -o example */
 #include "maldjupp.h"
@@ -73,6 +73,34 @@ static size_t ticket(uint32_t grade, float bar, uint8_t out[MOST]) {
 static size_t pile(size_t n, float width, uint8_t out[MOST]) {
     struct sheet s = {.length = 0};
     for (size_t i = 0; i < n; i++) fill(&s, 2, 2, width, 3, 0x207A4E);
+    return bytes_of(&s, W, H, 0xDEDBD2, out);
+}
+
+/* Places of a trace, up and down across the paper. */
+static float column(size_t i) { return 3 + 2.5f * (float)(i % 8); }
+
+static float row(size_t i) { return 3 + (float)(i * 7 % 10); }
+
+/* A width of 2, and an ink of alpha 128, with which joints show. */
+static void pen(struct sheet *s) { number(s, 2), byte(s, 36), byte(s, 66), byte(s, 104), byte(s, 128); }
+
+/* Paper with a trace of so many points, as one polyline. */
+static size_t trace(size_t points, uint8_t out[MOST]) {
+    struct sheet s = {.length = 0};
+    fill(&s, 1, 1, 22, 14, 0xFDFCF8);
+    word(&s, 8 | (uint32_t)points << 16), pen(&s);
+    for (size_t i = 0; i < points; i++) number(&s, column(i)), number(&s, row(i));
+    end(&s);
+    return bytes_of(&s, W, H, 0xDEDBD2, out);
+}
+
+/* The same, as a line from each point to the next. */
+static size_t trace_lines(size_t points, uint8_t out[MOST]) {
+    struct sheet s = {.length = 0};
+    fill(&s, 1, 1, 22, 14, 0xFDFCF8);
+    for (size_t i = 1; i < points; i++) {
+        word(&s, 5), number(&s, column(i - 1)), number(&s, row(i - 1)), number(&s, column(i)), number(&s, row(i)), pen(&s), end(&s);
+    }
     return bytes_of(&s, W, H, 0xDEDBD2, out);
 }
 
@@ -184,6 +212,28 @@ static void shapes(void) {
           took(maldjupp_resize(canvas, H, W, px2, W * H)) && is_box(maldjupp_bounds(canvas), 0, 0, 0, H, W) && at(12, 8) == 0);
 }
 
+/* A trace that grows point by point, and one that is too long. */
+static void traces(void) {
+    enum { POINTS = 32 };
+    static uint8_t old[MOST], new[MOST], lines[MOST];
+    static uint32_t px[W * H], fresh[W * H], apart[W * H];
+    float none = 0;
+    size_t n = trace(0, old), m, grown = 0, alike = 0;
+    maldjupp_paint(old, n, px, W * H, &none, 0);
+    for (size_t points = 1; points <= POINTS; points++) {
+        m = trace(points, new), grown += maldjupp_patch(old, n, new, m, px, W * H, &none, 0).number == MALDJUPP_ACCEPTED;
+        maldjupp_paint(new, m, fresh, W * H, &none, 0), memcpy(old, new, n = m);
+        m = trace_lines(points, lines), maldjupp_paint(lines, m, apart, W * H, &none, 0);
+        alike += memcmp(px, fresh, sizeof px) == 0 && memcmp(px, apart, sizeof px) == 0;
+    }
+    check("a trace grows: it is as painted fresh, and as lines", grown == POINTS && alike == POINTS);
+    m = trace(2, new);
+    check("back to 2: the box around the whole of it", is(maldjupp_patch(old, n, new, m, px, W * H, &none, 0), MALDJUPP_ACCEPTED, 0, 1, 1, 23, 14));
+    memcpy(fresh, px, sizeof px), memcpy(old, new, n = m), m = trace(65, new);
+    check("65 points: refused 13 at item 2",
+          is(maldjupp_patch(old, n, new, m, px, W * H, &none, 0), MALDJUPP_POINTS, 2, 0, 0, 0, 0) && memcmp(px, fresh, sizeof px) == 0);
+}
+
 static int is_written(struct maldjupp_written w, uint32_t number, size_t len) { return w.number == number && w.item == 0 && w.len == len; }
 
 /* The bytes of a clip order by its own pairs: the end of the last item. */
@@ -277,6 +327,7 @@ int main(void) {
     check("49 words of scratch: refused 9", !ticket_calls(brass, 8, scratch, 49) && memcmp(px2, fresh, sizeof fresh) != 0);
     calls();
     shapes();
+    traces();
     orders();
 
     printf("example: %s\n", failed ? "FAILED" : "every answer is as it should be");

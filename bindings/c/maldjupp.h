@@ -21,7 +21,7 @@ enum maldjupp_number {
     MALDJUPP_SHEET_LENGTH = 1, /* the sheet is under 12 or over 60,000 bytes */
     MALDJUPP_HEADER = 2,       /* a side outside 1 to 2,048, over 1,024 items, or a zero byte of the header filled */
     MALDJUPP_PAIRS = 3,        /* the pairs of offset and length do not run on to the end of the sheet */
-    MALDJUPP_KIND = 4,         /* an item's kind is unknown, or its length is not its kind's */
+    MALDJUPP_KIND = 4,         /* an item's kind is not 1 to 8, or its length is not its kind's */
     MALDJUPP_ZERO_BYTE = 5,    /* a zero byte of an item filled, a paint or brush kind over 3 or skip_inside over 1 */
     MALDJUPP_FLOAT = 6,        /* a float is not finite or past 8,192 either way */
     MALDJUPP_CLIPS = 7,        /* a clip is pushed while 16 are saved */
@@ -29,7 +29,7 @@ enum maldjupp_number {
     MALDJUPP_SCRATCH = 9,      /* the scratch lent is less than is needed */
     MALDJUPP_DIFFERENCE = 10,  /* the sheets differ in size, ground or item count, or in a push or pop of a clip */
     MALDJUPP_STATE = 12,       /* a state that a canvas cannot be in */
-    MALDJUPP_POINTS = 13,      /* over 64 points, or in a canvas call an odd count of coordinates */
+    MALDJUPP_POINTS = 13,      /* a polygon or polyline of over 64 points, or in a canvas call an odd count of coordinates */
     MALDJUPP_MANY = 14,        /* the sheets differ in more than 32 shapes */
     MALDJUPP_BUFFER = 19,      /* the sheet does not fit the buffer */
     MALDJUPP_ORDER = 23        /* there is no clip order of this number: it is 1,093 or more */
@@ -41,6 +41,23 @@ struct maldjupp_reply {
     uint32_t item;   /* the item, counted from 1, beside 4, 5, 6, 7 and 13; else 0 */
     int32_t x0, y0, x1, y1;
 };
+
+/* A sheet, little-endian: bytes 0-1 width, 2-3 height, 4-6 ground R G B, 7 zero, 8-9 count of items, 10-11 zero; then for each item its offset
+ * and length, two bytes each; then the items, end to end, in the order in which they are drawn. An item is its kind, three bytes that are zero
+ * unless named, and:
+ *
+ *     1 push clip   x y w h                                                      20 bytes
+ *     2 pop clip    nothing                                                      4
+ *     3 fill        x y w h r, paint                                             52
+ *     4 stroke      x y w h r width, colour                                      32
+ *     5 line        ax ay bx by width, colour                                    28
+ *     6 polygon     paint, m points x y; bytes 2-3 are m                         32 + 8m
+ *     7 shadow      x y w h r blur, colour; byte 1 is skip_inside, 0 or 1        32
+ *     8 polyline    width, colour, m points x y; bytes 2-3 are m                 12 + 8m
+ *
+ * Kinds 3 to 8 are shapes. Numbers are floats of four bytes, a colour is R G B A. A paint is its kind (that of a brush, below), three zeros, c0, c1
+ * and four floats, with zero bytes for what its kind does not use. There are at most 64 points. A polyline is drawn as by maldjupp_polyline: a
+ * joint is blended by both of its lines, so that with an alpha under 255 it shows. In a patch it counts whole, as one shape. */
 
 /* Paints a sheet: every pixel the ground, then its items in their order. `pixels` must be width times height. Scratch is needed for
  * polygons alone: of each with at least 3 points, (bw + 2) * bh + 2 words, where bw and bh are the sides of the box around its points

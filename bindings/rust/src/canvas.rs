@@ -123,7 +123,7 @@ impl Canvas {
         self.on(|state, px| state.line(px, a, b, width, color))
     }
 
-    /// Draws lines from point to point, one after the other.
+    /// Draws lines from point to point, one after the other, of at most 64 points. A joint is blended by both of its lines.
     pub fn polyline(&mut self, points: &[Pt], width: f32, color: Color) -> Result<(), Refusal> {
         self.on(|state, px| state.polyline(px, points, width, color))
     }

@@ -95,7 +95,7 @@ impl Refusal {
             Refusal::SheetLength => "The sheet is under 12 or over 60,000 bytes.",
             Refusal::Header => "A side is outside 1 to 2,048, there are over 1,024 items, or a zero byte of the header is filled.",
             Refusal::Pairs => "The pairs of offset and length do not run on to the end of the sheet.",
-            Refusal::Kind => "The item's kind is unknown, or its length is not its kind's.",
+            Refusal::Kind => "The item's kind is not 1 to 8, or its length is not its kind's.",
             Refusal::ZeroByte => "A zero byte of the item is filled, its paint kind is over 3 or its skip_inside over 1.",
             Refusal::Float => "A float is not finite or past 8,192 either way.",
             Refusal::Clips => "A clip is pushed while 16 are saved.",
@@ -103,7 +103,7 @@ impl Refusal {
             Refusal::Scratch => "The scratch lent is less than is needed.",
             Refusal::Difference => "The sheets differ in size, ground or item count, or in a push or pop of a clip.",
             Refusal::State => "The state is none that a canvas can be in.",
-            Refusal::Points => "There are over 64 points.",
+            Refusal::Points => "A polygon or polyline has over 64 points.",
             Refusal::Many => "The sheets differ in more than 32 shapes.",
             Refusal::Buffer => "The sheet does not fit the buffer.",
             Refusal::Order => "There is no clip order of this number: it is 1,093 or more.",
@@ -157,7 +157,7 @@ pub enum SheetError {
     },
     /// 16 clips are saved already.
     Clips,
-    /// A polygon of over 64 points.
+    /// A polygon or polyline of over 64 points.
     Points {
         /// How many were given.
         count: usize,
@@ -206,7 +206,7 @@ impl fmt::Display for SheetError {
             }
             SheetError::Float { field, value } => write!(f, "{field} is {value}; it must be finite"),
             SheetError::Clips => f.write_str("16 clips are saved; a 17th cannot be pushed"),
-            SheetError::Points { count } => write!(f, "the polygon has {count} points; 64 are the most"),
+            SheetError::Points { count } => write!(f, "there are {count} points; a polygon or polyline has at most 64"),
             SheetError::Items => f.write_str("the sheet has 1,024 items, and no more can be added"),
             SheetError::Length { bytes } => write!(f, "the sheet would be {bytes} bytes long; 60,000 are the most"),
             SheetError::NoItem { index, count } => write!(f, "there is no item of index {index}; the sheet has {count} items"),

@@ -1,6 +1,5 @@
 //! The sheet: a header, pairs of offset and length, and the items in the order in which they are drawn.
 use crate::{Color, Paint, Pt, Rect, SheetError};
-use std::ops::Range;
 
 const LIMIT: f32 = 8192.0;
 const SIDES: std::ops::RangeInclusive<u32> = 1..=2048;
@@ -19,6 +18,7 @@ const STROKE: u8 = 4;
 const LINE: u8 = 5;
 const POLYGON: u8 = 6;
 const SHADOW: u8 = 7;
+const POLYLINE: u8 = 8;
 
 /// A shape as a value, for [`SheetBuilder::add`] and [`SheetBuilder::replace`].
 #[derive(Clone, Debug, PartialEq)]
@@ -74,6 +74,30 @@ pub enum Shape {
         /// Whether the middle, where the shadow is darkest, is left out.
         skip_inside: bool,
     },
+    /// Lines with round ends from point to point, one after the other; none under two points.
+    ///
+    /// A joint is blended by both of its lines, so that with an alpha under 255 it shows. The box of a patch is around the whole polyline,
+    /// old and new, however little of it differs. A [`Shape::Line`] for each line gives the same pixels and smaller boxes.
+    ///
+    /// ```
+    /// use maldjupp::{Color, IRect, Pt, Shape, SheetBuilder, Ticket};
+    /// let weights = [Pt::new(4.0, 30.0), Pt::new(12.0, 9.0), Pt::new(20.0, 15.0)];
+    /// let trace = |readings: usize| Shape::polyline(&weights[..readings], 2.0, Color::rgb(36, 66, 104));
+    /// let mut b = SheetBuilder::new(40, 40, Color::WHITE)?;
+    /// let index = b.add(&trace(1))?;
+    /// let mut ticket = Ticket::paint(&b)?;
+    /// assert_eq!(ticket.replace(index, trace(2))?, IRect::new(2, 7, 14, 32));
+    /// assert_eq!(ticket.replace(index, trace(3))?, IRect::new(2, 7, 22, 32));
+    /// # Ok::<(), Box<dyn std::error::Error>>(())
+    /// ```
+    Polyline {
+        /// Its points, at most 64.
+        points: Vec<Pt>,
+        /// The lines' width.
+        width: f32,
+        /// The colour.
+        color: Color,
+    },
 }
 
 impl Shape {
@@ -117,6 +141,11 @@ impl Shape {
         Shape::Shadow { rect, r, blur, color, skip_inside }
     }
 
+    /// Lines from point to point, as one shape.
+    pub fn polyline(points: &[Pt], width: f32, color: Color) -> Shape {
+        Shape::Polyline { points: points.to_vec(), width, color }
+    }
+
     fn item(&self) -> Item {
         match self {
             Shape::Fill { rect, r, paint } => Item::new(FILL).rect(rect).float("r", *r).paint(paint),
@@ -130,13 +159,11 @@ impl Shape {
                 .float("b.y", b.y)
                 .float("width", *width)
                 .color(color),
-            Shape::Poly { points, paint } => {
-                let start = Item::new(POLYGON).paint(paint).points(points.len());
-                points.iter().fold(start, |item, p| item.float("a point's x", p.x).float("a point's y", p.y))
-            }
+            Shape::Poly { points, paint } => Item::new(POLYGON).paint(paint).points(points),
             Shape::Shadow { rect, r, blur, color, skip_inside } => {
                 Item::new(SHADOW).second(*skip_inside as u8).rect(rect).float("r", *r).float("blur", *blur).color(color)
             }
+            Shape::Polyline { points, width, color } => Item::new(POLYLINE).float("width", *width).color(color).points(points),
         }
     }
 }
@@ -158,10 +185,11 @@ impl Item {
         self
     }
 
-    fn points(mut self, count: usize) -> Item {
-        self.points = count;
-        self.bytes[2..4].copy_from_slice(&(count as u16).to_le_bytes());
-        self
+    /// The points at the item's end, and their count in bytes 2 and 3. A count past two bytes makes the item too long for any sheet.
+    fn points(mut self, points: &[Pt]) -> Item {
+        self.points = points.len();
+        self.bytes[2..4].copy_from_slice(&(points.len() as u16).to_le_bytes());
+        points.iter().fold(self, |item, p| item.float("a point's x", p.x).float("a point's y", p.y))
     }
 
     fn float(mut self, field: &'static str, value: f32) -> Item {
@@ -336,15 +364,9 @@ impl SheetBuilder {
         self.add(&Shape::line(a, b, width, color))
     }
 
-    /// Draws lines from point to point, one after the other, each an item of its own; returns their indices.
-    pub fn polyline(&mut self, points: &[Pt], width: f32, color: Color) -> Result<Range<usize>, SheetError> {
-        let mut longer = self.clone();
-        for ends in points.windows(2) {
-            longer.line(ends[0], ends[1], width, color)?;
-        }
-        let indices = self.items()..longer.items();
-        *self = longer;
-        Ok(indices)
+    /// Draws lines from point to point, of at most 64 points, as one item.
+    pub fn polyline(&mut self, points: &[Pt], width: f32, color: Color) -> Result<usize, SheetError> {
+        self.add(&Shape::polyline(points, width, color))
     }
 
     /// Fills a polygon of at most 64 points.

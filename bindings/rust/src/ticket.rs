@@ -147,6 +147,18 @@ mod tests {
         }
     }
 
+    /// None for polylines, whatever stands beside them.
+    #[test]
+    fn a_polyline_needs_no_scratch() {
+        let points = [Pt::new(0.0, 0.0), Pt::new(3.0, 0.0), Pt::new(3.0, 2.0)];
+        let mut b = SheetBuilder::new(4, 4, Color::BLACK).unwrap();
+        b.polyline(&points, 1.0, Color::WHITE).unwrap();
+        assert_eq!(sheet::scratch_words(&b.bytes()), 0);
+        assert_eq!(raw::paint(&b.bytes(), &mut [0; 16], &mut []).number, 0);
+        b.fill_poly(&points, Color::WHITE).unwrap();
+        assert_eq!(sheet::scratch_words(&b.bytes()), sheet::polygon_words(&points));
+    }
+
     #[test]
     fn wrong_pixels_are_refused() {
         let sheet = SheetBuilder::new(4, 1, Color::BLACK).unwrap().bytes();

@@ -1,5 +1,5 @@
 //! Drawing call by call: the pixels are those of the sheet with the same calls, and a refused call alters nothing.
-use maldjupp::{Canvas, Color, IRect, Pt, Rect, Refusal, Shape, SheetBuilder, SheetError, Ticket};
+use maldjupp::{Canvas, Color, IRect, Rect, Refusal, Shape, SheetBuilder, SheetError, Ticket};
 use random::Random;
 
 mod random;
@@ -11,10 +11,11 @@ fn draw(canvas: &mut Canvas, shape: &Shape) -> Result<(), Refusal> {
         Shape::Line { a, b, width, color } => canvas.line(*a, *b, *width, *color),
         Shape::Poly { points, paint } => canvas.fill_poly(points, *paint),
         Shape::Shadow { rect, r, blur, color, skip_inside } => canvas.shadow_rrect(*rect, *r, *blur, *color, *skip_inside),
+        Shape::Polyline { points, width, color } => canvas.polyline(points, *width, *color),
     }
 }
 
-/// A random call on both, and whether their limits are the same: a sheet has no polyline, and a circle is there the square around it.
+/// A random call on both, and whether their limits are the same: in a sheet, a circle is the square around it.
 fn call(random: &mut Random, canvas: &mut Canvas, b: &mut SheetBuilder) -> (Result<(), Refusal>, Result<(), SheetError>, bool) {
     let (x, y, r, width, color, paint) = (random.float(), random.float(), random.float(), random.float(), random.color(), random.paint());
     let (rect, points) = (random.rect(), random.points());
@@ -24,7 +25,7 @@ fn call(random: &mut Random, canvas: &mut Canvas, b: &mut SheetBuilder) -> (Resu
         3 => (canvas.fill_rect(rect, paint), b.fill_rect(rect, paint).map(drop), true),
         4 => (canvas.fill_circle(x, y, r, paint), b.fill_circle(x, y, r, paint).map(drop), false),
         5 => (canvas.ring(x, y, r, width, color), b.ring(x, y, r, width, color).map(drop), false),
-        6 => (canvas.polyline(&points, width, color), b.polyline(&points, width, color).map(drop), false),
+        6 => (canvas.polyline(&points, width, color), b.polyline(&points, width, color).map(drop), true),
         _ => {
             let shape = random.shape();
             (draw(canvas, &shape), b.add(&shape).map(drop), true)
@@ -100,25 +101,4 @@ fn clips() {
     assert_eq!(canvas.px(), [0x01_0203, 0x01_0203, 0, 0]);
     assert_eq!((canvas.get(-5, 7), canvas.get(99, 0)), (0x01_0203, 0));
     assert_eq!(canvas.to_ppm(), b"P6\n4 1\n255\n\x01\x02\x03\x01\x02\x03\0\0\0\0\0\0");
-}
-
-#[test]
-fn polylines() {
-    let way = [Pt::new(1.0, 2.0), Pt::new(20.0, 5.0), Pt::new(9.0, 17.5)];
-    let mut b = SheetBuilder::new(24, 20, Color::WHITE).unwrap();
-    b.fill_rect(Rect::new(3.0, 3.0, 9.0, 9.0), Color::BLACK).unwrap();
-    assert_eq!(b.polyline(&way, 2.5, Color::rgba(200, 0, 0, 99)), Ok(1..3));
-    assert_eq!((b.polyline(&way[..1], 1.0, Color::BLACK), b.polyline(&[], 1.0, Color::BLACK)), (Ok(3..3), Ok(3..3)));
-    let before = b.clone();
-    let error = b.polyline(&[way[0], way[1], Pt::new(0.0, 9000.0)], 1.0, Color::BLACK).unwrap_err();
-    assert_eq!((error.to_string().as_str(), &b), ("b.y is 9000; it must be -8,192 to 8,192", &before));
-    assert_eq!(b.polyline(&[Pt::default(); 1023], 1.0, Color::BLACK), Err(SheetError::Items));
-    assert_eq!(b.polyline(&[Pt::default(); 1022], 1.0, Color::BLACK), Ok(3..1024));
-
-    let mut canvas = Canvas::new(24, 20).unwrap();
-    canvas.clear(Color::WHITE).unwrap();
-    canvas.fill_rect(Rect::new(3.0, 3.0, 9.0, 9.0), Color::BLACK).unwrap();
-    canvas.polyline(&way, 2.5, Color::rgba(200, 0, 0, 99)).unwrap();
-    assert_eq!(canvas.px(), Ticket::paint(&before).unwrap().px());
-    assert_eq!(canvas.polyline(&[Pt::default(); 65], 1.0, Color::BLACK), Err(Refusal::Points));
 }

@@ -39,18 +39,19 @@ fn clip(r: Rect) -> Vec<u8> {
 
 fn shape(s: &Shape) -> Vec<u8> {
     let rounded = |rect: &Rect, rest: &[f32]| [floats(&[rect.x, rect.y, rect.w, rect.h]), floats(rest)].concat();
+    let flat = |points: &[Pt]| floats(&points.iter().flat_map(|p| [p.x, p.y]).collect::<Vec<_>>());
     match s {
         Shape::Fill { rect, r, paint: p } => [vec![3, 0, 0, 0], rounded(rect, &[*r]), paint(p)].concat(),
         Shape::Stroke { rect, r, width, color } => [vec![4, 0, 0, 0], rounded(rect, &[*r, *width]), ink(*color).to_vec()].concat(),
         Shape::Line { a, b, width, color } => {
             [vec![5, 0, 0, 0], floats(&[a.x, a.y, b.x, b.y, *width]), ink(*color).to_vec()].concat()
         }
-        Shape::Poly { points, paint: p } => {
-            let flat: Vec<_> = points.iter().flat_map(|p| [p.x, p.y]).collect();
-            [vec![6, 0, points.len() as u8, 0], paint(p), floats(&flat)].concat()
-        }
+        Shape::Poly { points, paint: p } => [vec![6, 0, points.len() as u8, 0], paint(p), flat(points)].concat(),
         Shape::Shadow { rect, r, blur, color, skip_inside } => {
             [vec![7, *skip_inside as u8, 0, 0], rounded(rect, &[*r, *blur]), ink(*color).to_vec()].concat()
+        }
+        Shape::Polyline { points, width, color } => {
+            [vec![8, 0, points.len() as u8, 0], floats(&[*width]), ink(*color).to_vec(), flat(points)].concat()
         }
     }
 }

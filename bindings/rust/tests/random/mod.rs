@@ -54,7 +54,7 @@ impl Random {
     }
 
     pub fn shape(&mut self) -> Shape {
-        match self.below(8) {
+        match self.below(9) {
             0 => Shape::fill_rect(self.rect(), self.paint()),
             1 => Shape::fill_rrect(self.rect(), self.float(), self.paint()),
             2 => Shape::fill_circle(self.float(), self.float(), self.float(), self.paint()),
@@ -62,6 +62,7 @@ impl Random {
             4 => Shape::ring(self.float(), self.float(), self.float(), self.float(), self.color()),
             5 => Shape::line(self.pt(), self.pt(), self.float(), self.color()),
             6 => Shape::fill_poly(&self.points(), self.paint()),
+            7 => Shape::polyline(&self.points(), self.float(), self.color()),
             _ => Shape::shadow_rrect(self.rect(), self.float(), self.float(), self.color(), self.below(2) == 1),
         }
     }
