@@ -116,7 +116,7 @@ pub before-lengths : (l : List (List ℕ × List ℕ)) (s : Sheet (List ℕ)) (p
 unfolding patchBy few tooMany
 before-lengths l s px words e = rw e
 
--- a chain of n points with width -2, so that a line reaches its own columns and, of one that slopes, its own rows
+-- a chain of n points with width -2, so that a line reaches the box between its ends and no more
 abbrev chain : ℕ → List ℕ → List ℕ
 chain n points = 8 ∷ 0 ∷ n ∷ 0 ∷ 0 ∷ 0 ∷ 0 ∷ 192 ∷ 0 ∷ 0 ∷ 0 ∷ 255 ∷ points
 
@@ -131,7 +131,7 @@ abbrev long : List ℕ
 long = chain 3 (none ++ none ++ one ++ one ++ two ++ none)
 
 pub chains :
-    -- a chain begins, and grows; its last point goes again
+    -- a chain begins, grows, and is cut back to one point
     (answered (start ∷ []) (short ∷ []) 4 ≡ accepted (boxOf (pos 0) (pos 0) (pos 1) (pos 1)))
     × (answered (short ∷ []) (long ∷ []) 4 ≡ accepted (boxOf (pos 0) (pos 0) (pos 2) (pos 1)))
     × (answered (long ∷ []) (start ∷ []) 4 ≡ accepted (boxOf (pos 0) (pos 0) (pos 2) (pos 1)))

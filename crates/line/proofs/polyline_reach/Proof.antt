@@ -1,10 +1,9 @@
--- `line::polyline_reach` meets its contract. The lines from point i - 1 on are joined. Assumes nothing.
-use mathlib.Core.Path.{_≡_, refl, ap, _∙_}
+-- `line::polyline_reach` meets its contract. The reaches of the lines from point i - 1 on are joined. Assumes nothing.
+use mathlib.Core.Path.{_≡_, _∙_}
 use Prim.Native.Nat.{_≤_, _-_, _/_, max}
 use native.Mathlib.Omega.{arith}
 use lib.ListN.{length}
 use Rattle.geom.specs.Box.{noBox, join}
-use Rattle.geom.specs.declared.IRect.{IRect}
 use Rattle.color.specs.declared.Color.{Color}
 use Rattle.draw.specs.Parts.{reachAll}
 use Rattle.line.specs.Lines.{lineReach}
