@@ -51,7 +51,7 @@ fn up_to_64_points() {
     }
 }
 
-/// The builder and the library agree, also where there are too many points and one of them is no number.
+/// The builder, painting and the canvas call agree, also where there are too many points and one of them is no number.
 #[test]
 fn more_are_refused() {
     for count in [65, 66, 256, 300, 7_496] {
@@ -60,6 +60,7 @@ fn more_are_refused() {
             assert_eq!(b.polyline(&points, 1.5, Color::WHITE), Err(SheetError::Points { count }));
             let refused = Ticket::from_bytes(alone(&points, 1.5, Color::WHITE)).unwrap_err();
             assert_eq!(refused, Refused { refusal: Refusal::Points, item: 1 });
+            assert_eq!(Canvas::new(W, H).unwrap().polyline(&points, 1.5, Color::WHITE), Err(Refusal::Points));
         }
         assert_eq!(b, blank());
     }
