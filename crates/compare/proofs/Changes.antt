@@ -9,7 +9,7 @@ use native.Mathlib.Omega.{arith}
 use lib.Dec.{eqb, leb}
 use lib.ListN.{length}
 use borrow.Author.Tests.{ne-eqb}
-use Rattle.geom.specs.Box.{noBox, meet, join, hull}
+use Rattle.geom.specs.Box.{noBox, meet, join, joinAll, hull}
 use Rattle.geom.specs.declared.IRect.{IRect}
 use Rattle.geom.proofs.Bools.{and-left, and-right}
 use Rattle.geom.proofs.Boxes.{join-assoc, join-none}
@@ -95,7 +95,7 @@ module _ (frame : IRect) where
     -- a pair of shapes more
     pair : (a b : List ℕ) (c : Change (List ℕ))
         → toldAfter frame seen area (withPair a b c) ≡ toldAfter frame (seen + 1) (join (join area (meet frame (kind .reach a))) (meet frame (kind .reach b))) c
-    unfolding withPair toldAfter reaches hull
+    unfolding withPair toldAfter reaches joinAll
     pair a b other = refl
     pair a b (shapes l) =
         let n : seen + suc (length l) ≡ seen + 1 + length l = omega arith in

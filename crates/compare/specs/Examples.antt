@@ -7,10 +7,9 @@ use lib.ListN.{length, replicate}
 use lib.Ieee.{ofBits, round, add, sub, mul, lt, le, eq, ne, neg, ofInt, toSigned, toUnsigned}
 use Rattle.mathf.specs.Whole.{floorOf, ceilOf}
 use Rattle.geom.specs.Int.{maxZ, minZ}
-use Rattle.geom.specs.Box.{boxOf, meet, empty, noBox, around, join, hull}
+use Rattle.geom.specs.Box.{boxOf, meet, empty, noBox, around, join, joinAll}
 use Rattle.geom.specs.declared.IRect.{IRect}
 use Rattle.geom.specs.Plane.{floatOk, noArea, outerOf}
-use Rattle.draw.specs.Parts.{reachAll}
 use Rattle.fill.specs.Fill.{fillReach}
 use Rattle.line.specs.Lines.{absOf, lineReach}
 use Rattle.line.specs.Polylines.{linesFrom}
@@ -94,7 +93,7 @@ pub edges :
     × (answered (outline none ∷ fill two 0 ∷ []) (fill none 0 ∷ fill two 0 ∷ []) 4 ≡ accepted (boxOf (pos 0) (pos 0) (pos 1) (pos 1)))
     -- a push differs, beside a shape
     × (answered (fill none 0 ∷ push none ∷ []) (fill two 0 ∷ push one ∷ []) 4 ≡ refusal 10 0)
-unfolding copies pairsOf joined patching patchOf patchBy lent reading sheetCheck checks.itemsFrom numberAt depthAt headNumber headerOk pairsOk pairsFrom itemNumber savedOk floatsOk paintFloatsOk bytesOk paintBytesOk pointsOk lengthOk layoutAt allAt floatOk itemsFrom drawnAs readItem readPaint reachOf needOf itemNeed needs sameItem sameBytes sameBox sameHeader change bothShapes withPair few tooMany reaches canvas hull join around empty meet maxZ minZ noBox answer refusal fillReach strokeReach noArea outerOf floorOf ceilOf ofBits round add sub mul ofInt lt le eq ne neg toSigned toUnsigned
+unfolding copies pairsOf joined patching patchOf patchBy lent reading sheetCheck checks.itemsFrom numberAt depthAt headNumber headerOk pairsOk pairsFrom itemNumber savedOk floatsOk paintFloatsOk bytesOk paintBytesOk pointsOk lengthOk layoutAt allAt floatOk itemsFrom drawnAs readItem readPaint reachOf needOf itemNeed needs sameItem sameBytes sameBox sameHeader change bothShapes withPair few tooMany reaches canvas joinAll join around empty meet maxZ minZ noBox answer refusal fillReach strokeReach noArea outerOf floorOf ceilOf ofBits round add sub mul ofInt lt le eq ne neg toSigned toUnsigned
 edges = (refl, refl, refl, refl, refl, refl, refl, refl)
 
 -- n lines from (x, 0)
@@ -141,5 +140,5 @@ pub chains :
     × (answered (start ∷ []) (fill two 0 ∷ []) 4 ≡ accepted (boxOf (pos 2) (pos 0) (pos 3) (pos 1)))
     -- a push for a chain
     × (answered (short ∷ []) (push one ∷ []) 4 ≡ refusal 10 0)
-unfolding copies pairsOf joined patching patchOf patchBy lent reading sheetCheck checks.itemsFrom numberAt depthAt headNumber headerOk pairsOk pairsFrom itemNumber savedOk floatsOk paintFloatsOk bytesOk paintBytesOk pointsOk lengthOk layoutAt allAt floatOk itemsFrom drawnAs readItem readPaint coordsFrom reachOf needOf itemNeed needs sameItem sameBytes sameBox sameHeader change bothShapes withPair few tooMany reaches canvas hull join around empty meet maxZ minZ noBox answer refusal reachAll linesFrom lineReach absOf fillReach noArea outerOf floorOf ceilOf ofBits round add sub mul ofInt lt le eq ne neg toSigned toUnsigned
+unfolding copies pairsOf joined patching patchOf patchBy lent reading sheetCheck checks.itemsFrom numberAt depthAt headNumber headerOk pairsOk pairsFrom itemNumber savedOk floatsOk paintFloatsOk bytesOk paintBytesOk pointsOk lengthOk layoutAt allAt floatOk itemsFrom drawnAs readItem readPaint coordsFrom reachOf needOf itemNeed needs sameItem sameBytes sameBox sameHeader change bothShapes withPair few tooMany reaches canvas joinAll join around empty meet maxZ minZ noBox answer refusal linesFrom lineReach absOf fillReach noArea outerOf floorOf ceilOf ofBits round add sub mul ofInt lt le eq ne neg toSigned toUnsigned
 chains = (refl, refl, refl, refl, refl, refl, refl)

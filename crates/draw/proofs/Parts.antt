@@ -1,6 +1,6 @@
 -- Parts drawn one after the other are one shape.
---     all-drawn                                parts drawn under a clip, as the drawing of their reach and ink
---     reach-each, reach-least, reach-none      their reach is the smallest box around theirs
+--     reach-smallest   their reach is the smallest box around theirs
+--     all-drawn        parts drawn under a clip, as the drawing of their reach and ink
 -- Assumes nothing.
 use mathlib.Core.Path.{_≡_, refl, sym, ap, _∙_}
 use mathlib.Core.Bool.{Bool, true, false, cond, _&&_}
@@ -11,39 +11,15 @@ use lib.IntN.{pos}
 use lib.ListN.{length, getD}
 use lib.Seq.{ext-getD}
 use Rattle.geom.specs.declared.IRect.{IRect}
-use Rattle.geom.specs.Box.{inside, empty, noBox, Holds}
+use Rattle.geom.specs.Box.{inside, joinAll, Holds, SmallestAll}
 use Rattle.geom.proofs.Bools.{same-test}
-use Rattle.geom.proofs.Boxes.{join-left, join-right, holds-join, holds-empty, empty-join}
+use Rattle.geom.proofs.Boxes.{join-left, join-right, join-smallest}
 use Rattle.draw.specs.Draw.{meets, drawn}
 use Rattle.draw.specs.Parts.{Part, reachAll, inkAll, drawnAll}
 use Rattle.draw.proofs.Clips.{length-shape, shape-at}
 
--- ---- the reach
-
--- a box holds each of the parts' reaches
-unfoldable pub HoldsParts : IRect → List Part → Type 0
-HoldsParts big [] = Unit {0}
-HoldsParts big (a ∷ l) = Holds big (a .reach) × HoldsParts big l
-
-wider : (wide narrow : IRect) (l : List Part) → Holds wide narrow → HoldsParts narrow l → HoldsParts wide l
-unfolding HoldsParts
-wider wide narrow [] h e = tt
-wider wide narrow (a ∷ l) h e = (record { holds = λ x y i. h .holds x y (e .0 .holds x y i) }, wider wide narrow l h (e .1))
-
-pub reach-each : (l : List Part) → HoldsParts (reachAll l) l
-unfolding HoldsParts reachAll
-reach-each [] = tt
-reach-each (a ∷ l) = (join-left (a .reach) (reachAll l), wider _ _ l (join-right (a .reach) (reachAll l)) (reach-each l))
-
-pub reach-least : (l : List Part) (big : IRect) → HoldsParts big l → Holds big (reachAll l)
-unfolding HoldsParts reachAll noBox empty
-reach-least [] big h = holds-empty big noBox refl
-reach-least (a ∷ l) big h = holds-join big (a .reach) (reachAll l) (h .0) (reach-least l big (h .1))
-
-pub reach-none : (l : List Part) → empty (reachAll l) ≡ true → reachAll l ≡ noBox
-unfolding reachAll
-reach-none [] e = refl
-reach-none (a ∷ l) e = let j = empty-join (a .reach) (reachAll l) e in j ∙ reach-none l (rw j at e)
+pub reach-smallest : (l : List Part) → SmallestAll (λ (a : Part). a .reach) l (reachAll l)
+reach-smallest l = join-smallest (λ (a : Part). a .reach) l
 
 -- ---- one pixel
 
@@ -56,7 +32,7 @@ module _ (x y : ℕ) where
 
   -- outside the reach of the parts the ink leaves the pixel
   ink-outside : (l : List Part) (p : ℕ) → in-box (reachAll l) ≡ false → inkAll l x y p ≡ p
-  unfolding reachAll inkAll
+  unfolding joinAll inkAll
   ink-outside [] p o = refl
   ink-outside (a ∷ l) p o =
       let left : cond (in-box (a .reach)) (a .ink x y p) p ≡ p = rw (outside _ (a .reach) (join-left (a .reach) (reachAll l)) o) in

@@ -4,7 +4,7 @@ use mathlib.Core.List.{List, [], _∷_}
 use Prim.Native.Nat.{ℕ}
 use lib.IntN.{pos}
 use Rattle.geom.specs.declared.IRect.{IRect}
-use Rattle.geom.specs.Box.{inside, noBox, join}
+use Rattle.geom.specs.Box.{inside, joinAll}
 use Rattle.draw.specs.Draw.{drawn}
 
 pub record Part : Type 0 where
@@ -15,9 +15,8 @@ abbrev pub part : IRect → (ℕ → ℕ → ℕ → ℕ) → Part
 part reach ink = record { reach = reach; ink = ink }
 
 -- the smallest box around the reaches of the parts, an empty one counting for nothing; four zeros where there is no other
-unfoldable pub reachAll : List Part → IRect
-reachAll [] = noBox
-reachAll (a ∷ l) = join (a .reach) (reachAll l)
+abbrev pub reachAll : List Part → IRect
+reachAll l = joinAll (λ (a : Part). a .reach) l
 
 -- a pixel's value after the parts, from its value p: each alters it inside its own reach alone
 unfoldable pub inkAll : List Part → ℕ → ℕ → ℕ → ℕ

@@ -1,5 +1,5 @@
 -- The laws of boxes: a pixel is in a cut where it is in both boxes, a cut that is not empty lies within both, and `hull` is the smallest box
--- around its list. Assumes nothing.
+-- around its list (`join-smallest`, of any list that has boxes). Assumes nothing.
 use mathlib.Core.Bool.{Bool, true, false, cond, _&&_, _||_}
 use mathlib.Core.List.{List, [], _∷_}
 use mathlib.Core.Logic.{_⊎_, inl, inr}
@@ -12,7 +12,7 @@ use Rattle.geom.specs.declared.IRect.{IRect}
 use Rattle.geom.specs.Int.{up, maxZ, minZ}
 use Rattle.geom.proofs.Int.{orderZ, pred-down, down-none, le-up, lt-up, max-left, max-right, max-by, max-assoc, min-left, min-right, min-by, min-assoc}
 use Rattle.geom.proofs.Bools.{and-left, and-right, and-both, or-false, same-test, split}
-use Rattle.geom.specs.Box.{boxOf, inside, meet, empty, noBox, around, join, hull, Holds, inAny, HoldsEach, Smallest}
+use Rattle.geom.specs.Box.{boxOf, inside, meet, empty, noBox, around, join, joinAll, hull, Holds, inAny, HoldsAll, SmallestAll, HoldsEach, Smallest}
 
 -- ---- a pixel inside
 
@@ -292,37 +292,38 @@ pub join-none : (b : IRect) → join noBox b ≡ b
 unfolding join noBox empty
 join-none b = refl
 
-each-wider : (wide narrow frame : IRect) (bs : List IRect) → Holds wide narrow → HoldsEach narrow frame bs → HoldsEach wide frame bs
-unfolding HoldsEach
-each-wider wide narrow frame [] h e = tt
-each-wider wide narrow frame (b ∷ bs) h e = (holds-trans h (e .0), each-wider wide narrow frame bs h (e .1))
+-- the smallest box around those that f gives of a list
+module _ {A : Type 0} (f : A → IRect) where
+  all-wider : (wide narrow : IRect) (l : List A) → Holds wide narrow → HoldsAll narrow f l → HoldsAll wide f l
+  unfolding HoldsAll
+  all-wider wide narrow [] h e = tt
+  all-wider wide narrow (a ∷ l) h e = (holds-trans h (e .0), all-wider wide narrow l h (e .1))
 
-pub hull-around : (frame : IRect) (bs : List IRect) → HoldsEach (hull frame bs) frame bs
-unfolding hull HoldsEach
-hull-around frame [] = tt
-hull-around frame (b ∷ bs) =
-    let j = join-right (meet frame b) (hull frame bs) in
-    (join-left (meet frame b) (hull frame bs), each-wider _ _ frame bs j (hull-around frame bs))
+  join-around : (l : List A) → HoldsAll (joinAll f l) f l
+  unfolding joinAll HoldsAll
+  join-around [] = tt
+  join-around (a ∷ l) = (join-left (f a) (joinAll f l), all-wider _ _ l (join-right (f a) (joinAll f l)) (join-around l))
 
-pub hull-least : (frame : IRect) (bs : List IRect) (big : IRect) → HoldsEach big frame bs → Holds big (hull frame bs)
-unfolding hull HoldsEach noBox empty
-hull-least frame [] big h = holds-empty big noBox refl
-hull-least frame (b ∷ bs) big h = holds-join big (meet frame b) (hull frame bs) (h .0) (hull-least frame bs big (h .1))
+  join-least : (l : List A) (big : IRect) → HoldsAll big f l → Holds big (joinAll f l)
+  unfolding joinAll HoldsAll noBox empty
+  join-least [] big h = holds-empty big noBox refl
+  join-least (a ∷ l) big h = holds-join big (f a) (joinAll f l) (h .0) (join-least l big (h .1))
 
-pub hull-none : (frame : IRect) (bs : List IRect) → empty (hull frame bs) ≡ true → hull frame bs ≡ noBox
-unfolding hull
-hull-none frame [] e = refl
-hull-none frame (b ∷ bs) e =
-    let j = empty-join (meet frame b) (hull frame bs) e in
-    j ∙ hull-none frame bs (rw j at e)
+  join-empty : (l : List A) → empty (joinAll f l) ≡ true → joinAll f l ≡ noBox
+  unfolding joinAll
+  join-empty [] e = refl
+  join-empty (a ∷ l) e = let j = empty-join (f a) (joinAll f l) e in j ∙ join-empty l (rw j at e)
+
+  pub join-smallest : (l : List A) → SmallestAll f l (joinAll f l)
+  join-smallest l = record { around = join-around l; least = join-least l; none = join-empty l }
 
 pub hull-smallest : (frame : IRect) (bs : List IRect) → Smallest frame bs (hull frame bs)
-hull-smallest frame bs = record { around = hull-around frame bs; least = hull-least frame bs; none = hull-none frame bs }
+hull-smallest frame bs = join-smallest (meet frame) bs
 
 -- a pixel of the frame that lies in one of the boxes lies in a box that holds them
 pub held-any : (big frame : IRect) (bs : List IRect) → HoldsEach big frame bs
     → (x y : ℤ) → inside frame x y ≡ true → inAny bs x y ≡ true → inside big x y ≡ true
-unfolding inAny HoldsEach
+unfolding inAny HoldsAll
 held-any big frame [] h x y f e = let z : true ≡ false = cc in cc
 held-any big frame (b ∷ bs) h x y f e = go (inside b x y) refl e (held-any big frame bs (h .1) x y f)
   where
@@ -333,12 +334,12 @@ held-any big frame (b ∷ bs) h x y f e = go (inside b x y) refl e (held-any big
 
 -- the smallest box lies in the frame
 each-in-frame : (frame : IRect) (bs : List IRect) → HoldsEach frame frame bs
-unfolding HoldsEach
+unfolding HoldsAll
 each-in-frame frame [] = tt
 each-in-frame frame (b ∷ bs) = (meet-left frame b, each-in-frame frame bs)
 
 pub hull-in-frame : (frame : IRect) (bs : List IRect) → Holds frame (hull frame bs)
-hull-in-frame frame bs = hull-least frame bs frame (each-in-frame frame bs)
+hull-in-frame frame bs = hull-smallest frame bs .least frame (each-in-frame frame bs)
 
 pub out-of-hull : (frame : IRect) (bs : List IRect) (x y : ℤ) → inside frame x y ≡ false → inside (hull frame bs) x y ≡ false
 out-of-hull frame bs x y o = same-test _ false (λ e. let h = hull-in-frame frame bs .holds x y e in cc) (λ z. cc)

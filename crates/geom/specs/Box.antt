@@ -37,10 +37,14 @@ around a b = boxOf (minZ (a .x0) (b .x0)) (minZ (a .y0) (b .y0)) (maxZ (a .x1) (
 unfoldable pub join : IRect → IRect → IRect
 join a b = cond (empty a) b (cond (empty b) a (around a b))
 
+-- the smallest box around those that f gives of a list, an empty one counting for nothing; four zeros where there is no other
+unfoldable pub joinAll : {A : Type 0} → (A → IRect) → List A → IRect
+joinAll f [] = noBox
+joinAll f (a ∷ l) = join (f a) (joinAll f l)
+
 -- the smallest box around those of a list, each first cut to `frame`; four zeros where nothing is left of them
-unfoldable pub hull : IRect → List IRect → IRect
-hull frame [] = noBox
-hull frame (b ∷ bs) = join (meet frame b) (hull frame bs)
+abbrev pub hull : IRect → List IRect → IRect
+hull frame bs = joinAll (meet frame) bs
 
 -- every pixel of `small` is a pixel of `big`
 pub record Holds (big small : IRect) : Type 0 where
@@ -51,14 +55,21 @@ unfoldable pub inAny : List IRect → ℤ → ℤ → Bool
 inAny [] x y = false
 inAny (b ∷ bs) x y = inside b x y || inAny bs x y
 
--- `big` holds what each box of the list has inside `frame`
-unfoldable pub HoldsEach : IRect → IRect → List IRect → Type 0
-HoldsEach big frame [] = Unit {0}
-HoldsEach big frame (b ∷ bs) = Holds big (meet frame b) × HoldsEach big frame bs
+-- `big` holds each box that f gives of a list
+unfoldable pub HoldsAll : {A : Type 0} → IRect → (A → IRect) → List A → Type 0
+HoldsAll big f [] = Unit {0}
+HoldsAll big f (a ∷ l) = Holds big (f a) × HoldsAll big f l
 
--- `box` is the smallest around the boxes of the list, each first cut to `frame`: it holds them, every box that holds them holds it,
--- and an empty one is four zeros
-pub record Smallest (frame : IRect) (bs : List IRect) (box : IRect) : Type 0 where
-  pub around : HoldsEach box frame bs
-  pub least : (big : IRect) → HoldsEach big frame bs → Holds big box
+-- `box` is the smallest around the boxes that f gives of a list: it holds them, every box that holds them holds it, and an empty one is
+-- four zeros
+pub record SmallestAll {A : Type 0} (f : A → IRect) (l : List A) (box : IRect) : Type 0 where
+  pub around : HoldsAll box f l
+  pub least : (big : IRect) → HoldsAll big f l → Holds big box
   pub none : empty box ≡ true → box ≡ noBox
+
+-- the same of the boxes of a list, each first cut to `frame`
+abbrev pub HoldsEach : IRect → IRect → List IRect → Type 0
+HoldsEach big frame bs = HoldsAll big (meet frame) bs
+
+abbrev pub Smallest : IRect → List IRect → IRect → Type 0
+Smallest frame bs box = SmallestAll (meet frame) bs box

@@ -10,7 +10,7 @@ use Prim.Native.Nat.{ℕ, suc, _+_, _-_, _<_, _≤_, max}
 use native.Mathlib.Omega.{arith}
 use lib.Ieee.{Float}
 use Rattle.geom.specs.declared.IRect.{IRect}
-use Rattle.geom.specs.Box.{join}
+use Rattle.geom.specs.Box.{join, joinAll}
 use Rattle.color.specs.declared.Color.{Color}
 use Rattle.draw.specs.Draw.{drawn}
 use Rattle.draw.specs.Parts.{Part, reachAll, inkAll, drawnAll}
@@ -40,7 +40,7 @@ module _ (pts : List Float) (width : Float) (c : Color) where
   pub reach-turn : (n i : ℕ) → 1 < i → i ≤ n
       → join (lineReach (pointAt pts (i - 2)) (pointAt pts (i - 1)) width) (reachAll (linesFrom pts width c (n - max 1 i) (i - 1)))
       ≡ reachAll (linesFrom pts width c (n - max 1 (i - 1)) (i - 1 - 1))
-  unfolding reachAll
+  unfolding joinAll
   reach-turn n i l h =
       let m : max 1 i ≡ i = omega arith in
       let k : max 1 (i - 1) ≡ i - 1 = omega arith in

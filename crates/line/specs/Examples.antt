@@ -9,7 +9,7 @@ use Rattle.mathf.specs.Whole.{floorOf, ceilOf}
 use Rattle.mathf.specs.Root.{sqrtOf}
 use Rattle.geom.specs.declared.IRect.{IRect}
 use Rattle.geom.specs.Int.{maxZ, minZ}
-use Rattle.geom.specs.Box.{boxOf, inside, noBox, empty, around, join}
+use Rattle.geom.specs.Box.{boxOf, inside, noBox, empty, around, join, joinAll}
 use Rattle.geom.specs.Plane.{outerOf}
 use Rattle.color.specs.declared.Color.{Color}
 use Rattle.color.specs.Inks.{blended, coveredBy}
@@ -38,7 +38,7 @@ pub reaches :
     × (reach (f½ ∷ f½ ∷ f1½ ∷ f½ ∷ f1½ ∷ f3 ∷ []) f1 ≡ boxOf (negsuc 0) (negsuc 0) (pos 3) (pos 5))
     × (reach (f0 ∷ f0 ∷ f3 ∷ f3 ∷ f3 ∷ f0 ∷ []) thin ≡ boxOf (pos 1) (pos 1) (pos 2) (pos 2))
     × (reach (f3 ∷ f3 ∷ f3 ∷ f0 ∷ []) thin ≡ noBox)
-unfolding reachAll linesFrom lineReach absOf outerOf floorOf ceilOf noBox empty around join maxZ minZ ofBits ofInt round add sub mul lt le eq ne neg toSigned
+unfolding joinAll linesFrom lineReach absOf outerOf floorOf ceilOf noBox empty around join maxZ minZ ofBits ofInt round add sub mul lt le eq ne neg toSigned
 reaches = (refl, refl, refl, refl, refl)
 
 -- two pixels of 0 after a line from centre to centre, and after that line and the one back

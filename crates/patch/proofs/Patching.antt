@@ -9,10 +9,10 @@ use lib.Dec.{eqb}
 use lib.Ieee.{Float}
 use lib.IntN.{pos}
 use lib.ListN.{length}
-use Rattle.geom.specs.Box.{inside, empty, noBox, hull, HoldsEach}
+use Rattle.geom.specs.Box.{inside, empty, noBox, hull}
 use Rattle.geom.specs.declared.IRect.{IRect}
 use Rattle.geom.proofs.Bools.{split, and-left}
-use Rattle.geom.proofs.Boxes.{Within, edges, meet-left, hull-least}
+use Rattle.geom.proofs.Boxes.{Within, edges, hull-in-frame}
 use Rattle.color.specs.Colours.{pixOf}
 use Rattle.draw.specs.Draw.{eachAt, onto, meets}
 use Rattle.draw.specs.declared.Area.{Area}
@@ -84,15 +84,10 @@ reports s b a n k e = ap (told (a .number) (a .item)) e ∙ rest
 
 -- ---- the box
 
-each-held : (frame : IRect) (bs : List IRect) → HoldsEach frame frame bs
-unfolding HoldsEach
-each-held frame [] = tt
-each-held frame (b ∷ bs) = (meet-left frame b, each-held frame bs)
-
 hull-in : (frame : IRect) (bs : List IRect) → (empty (hull frame bs) ≡ true) ⊎ Within frame (hull frame bs)
 hull-in frame bs =
     split (empty (hull frame bs)) (λ t. (t ≡ true) ⊎ Within frame (hull frame bs)) (λ e. inl refl)
-    (λ e. inr (edges (hull frame bs) e frame (hull-least frame bs frame (each-held frame bs))))
+    (λ e. inr (edges (hull frame bs) e frame (hull-in-frame frame bs)))
 
 none-in : (frame : IRect) → (empty noBox ≡ true) ⊎ Within frame noBox
 unfolding empty noBox

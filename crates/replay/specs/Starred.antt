@@ -10,7 +10,7 @@ use Rattle.mathf.specs.Root.{sqrtOf}
 use Rattle.mathf.specs.Whole.{floorOf, ceilOf}
 use Rattle.mathf.specs.Examples.{floor-minus-half, ceil-minus-half, root-two}
 use Rattle.geom.specs.Int.{maxZ, minZ}
-use Rattle.geom.specs.Box.{boxOf, inside, meet, empty, noBox, around, join, hull}
+use Rattle.geom.specs.Box.{boxOf, inside, meet, empty, noBox, around, join, joinAll}
 use Rattle.geom.specs.Plane.{rectOf, floatOk, noArea, outerOf}
 use Rattle.color.specs.Inks.{blended, coveredBy, over, overC}
 use Rattle.color.specs.Colours.{rgbaOf}
@@ -50,7 +50,7 @@ pub moved :
     (pixels kind (painting format (red zero) 4 0) (7 ∷ 7 ∷ 7 ∷ 7 ∷ []) ≡ 0x00ff_0000 ∷ 0 ∷ 0 ∷ 0 ∷ [])
     × (answer (patching format (red zero) (red two) 4 0) ≡ record { number = 0; item = 0; area = boxOf (pos 0) (pos 0) (pos 3) (pos 1) })
     × (pixels kind (patching format (red zero) (red two) 4 0) (0x00ff_0000 ∷ 0 ∷ 0 ∷ 0 ∷ []) ≡ 0 ∷ 0 ∷ 0x00ff_0000 ∷ 0 ∷ [])
-unfolding painting paintOf patching patchOf patchBy lent reading sheetCheck checks.itemsFrom numberAt depthAt headNumber headerOk pairsOk pairsFrom itemNumber savedOk floatsOk paintFloatsOk bytesOk paintBytesOk pointsOk lengthOk layoutAt allAt floatOk itemsFrom drawnAs readItem readPaint reachOf inkOf needOf itemNeed needs sameItem sameBytes sameBox sameHeader change bothShapes withPair few tooMany reaches canvas hull join around empty meet maxZ minZ noBox answer pixels itemsOn itemOn shapeOn after groundIn drawn onto eachAt meets inside inColumns fillReach noArea outerOf middle coverOf rimInk middleInk roundInk paintAt radiusOf rrectSd cornerSd cov8Of blended coveredBy floorOf ceilOf ofBits round add sub mul ofInt lt le eq ne neg toSigned toUnsigned
+unfolding painting paintOf patching patchOf patchBy lent reading sheetCheck checks.itemsFrom numberAt depthAt headNumber headerOk pairsOk pairsFrom itemNumber savedOk floatsOk paintFloatsOk bytesOk paintBytesOk pointsOk lengthOk layoutAt allAt floatOk itemsFrom drawnAs readItem readPaint reachOf inkOf needOf itemNeed needs sameItem sameBytes sameBox sameHeader change bothShapes withPair few tooMany reaches canvas joinAll join around empty meet maxZ minZ noBox answer pixels itemsOn itemOn shapeOn after groundIn drawn onto eachAt meets inside inColumns fillReach noArea outerOf middle coverOf rimInk middleInk roundInk paintAt radiusOf rrectSd cornerSd cov8Of blended coveredBy floorOf ceilOf ofBits round add sub mul ofInt lt le eq ne neg toSigned toUnsigned
 moved = (refl, refl, refl)
 
 -- every starred example of document 01, in its order

@@ -4,7 +4,7 @@ use mathlib.Core.Path.{_≡_, sym, _∙_}
 use native.Mathlib.Nat.{sub-zero, add-zero}
 use native.Mathlib.Omega.{arith}
 use borrow.Author.Tests.{not-true, not-false}
-use Rattle.geom.specs.Box.{noBox, hull}
+use Rattle.geom.specs.Box.{noBox, joinAll}
 use Rattle.redraw.specs.Sheet.{reaches}
 use Rattle.sheet.specs.Check.{bytesAt}
 use Rattle.items.specs.Format.{itemIn}
@@ -110,7 +110,7 @@ settled-requires : tie.Need-settled-requires Inv-loop μ-loop
 settled-requires c κs = tt
 
 returns-2 : tie.Need-returns-2 Inv-loop μ-loop
-unfolding toldAfter reaches hull
+unfolding toldAfter reaches joinAll
 returns-2 c =
     let l = c .before .before in
     let a = l .before .before .before .before .before .args in
