@@ -1,8 +1,6 @@
 // Points, rectangles of the plane and boxes of pixels, all by value.
 ghost use mathlib.Core.Path.{_≡_};
 ghost use mathlib.Core.Bool.{_&&_};
-ghost use Rattle.mathf.specs.Convert.{toI32};
-ghost use Rattle.mathf.specs.Whole.{floorOf, ceilOf};
 ghost use Rattle.geom.specs.Int.{up, maxZ, minZ};
 ghost use Rattle.geom.specs.Box as Box;
 ghost use Rattle.geom.specs.Box.{boxOf, meet, empty};
@@ -162,18 +160,6 @@ pub fn nat_of(z: i32) -> usize
     if z < 0 { 0 } else { z as usize }
 }
 
-fn floor_i(x: f32) -> i32
-    ensures { λ r. ⌜ r ≡ toI32 (floorOf x) ⌝ }
-{
-    mathf::to_i32(mathf::floor(x))
-}
-
-fn ceil_i(x: f32) -> i32
-    ensures { λ r. ⌜ r ≡ toI32 (ceilOf x) ⌝ }
-{
-    mathf::to_i32(mathf::ceil(x))
-}
-
 impl IRect {
     pub const ZERO: IRect = IRect {
         x0: 0,
@@ -209,10 +195,10 @@ impl IRect {
     pub fn from_rect_outer(r: Rect) -> IRect
         ensures { λ b. ⌜ b ≡ outerOf r ⌝ }
     {
-        let x0 = floor_i(r.x);
-        let y0 = floor_i(r.y);
-        let x1 = ceil_i(r.right());
-        let y1 = ceil_i(r.bottom());
+        let x0 = mathf::floor_i(r.x);
+        let y0 = mathf::floor_i(r.y);
+        let x1 = mathf::ceil_i(r.right());
+        let y1 = mathf::ceil_i(r.bottom());
         IRect { x0, y0, x1, y1 }
     }
 }

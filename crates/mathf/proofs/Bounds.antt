@@ -3,7 +3,7 @@
 use mathlib.Core.Path.{_≡_, refl, sym, ap, subst, _∙_}
 use mathlib.Core.Bool.{Bool, true, false, not, cond, _||_, true≢false}
 use Prim.Native.Nat.{ℕ, zero, suc, _+_, _-_, _*_, _/_, _^_, _≤_, _<_, zero-le, min}
-use native.Mathlib.Nat.{lt-of-not-le, le-of-eq, le-trans, lt-of-le-of-lt, mul-one, div-lt-iff-lt-mul, le-of-suc-le-suc, suc-mul}
+use native.Mathlib.Nat.{lt-of-not-le, le-of-eq, le-trans, lt-of-le-of-lt, mul-one, div-lt-iff-lt-mul, le-of-suc-le-suc, lt-suc-self, suc-mul}
 use native.Mathlib.Omega.{arith}
 use lib.Dec.{T, T-not, le→leb, lt→ltb, lit≤, lit<}
 use lib.Arith.{le→nltb}
@@ -34,6 +34,9 @@ signed-whole false n h = positive-back binary32 31 n (le→leb n (2 ^ 24) h) (lt
 signed-whole true zero h = minus-zero
 signed-whole true (suc k) h = negative-back binary32 31 k (lt→ltb k (2 ^ 24) h) (le-trans h (lit≤ tt)) .1
 
+pub signed-as : (x : Float) (n : ℕ) → n ≤ 2 ^ 24 → wholeOf false n ≡ x → pos n ≡ toSigned 31 x
+signed-as x n h e = sym (signed-whole false n h) ∙ ap (toSigned 31) e
+
 -- ---- the cut of a fraction that is at most n
 pub cut-le : (a d n : ℕ) → 0 < d → a ≤ n * d → cutDown a d ≤ n
 cut-le a d n h l = le-of-suc-le-suc (div-lt-iff-lt-mul h .1 (rw suc-mul (room (n * d) l)))
@@ -45,6 +48,12 @@ pub taken-le : (a d n : ℕ) → 0 < d → a ≤ n * d → takenUp a d ≤ n
 taken-le a d n h l = le-of-suc-le-suc (div-lt-iff-lt-mul h .1 (rw suc-mul (room (n * d) l)))
   where
     room : (x : ℕ) → a ≤ x → a + (d - 1) < x + d
+    room x l = omega arith
+
+pub taken-over : (a d : ℕ) → 0 < d → a ≤ takenUp a d * d
+taken-over a d h = room (takenUp a d * d) (rw suc-mul at (div-lt-iff-lt-mul h .0 (lt-suc-self (takenUp a d))))
+  where
+    room : (x : ℕ) → a + (d - 1) < x + d → a ≤ x
     room x l = omega arith
 
 -- ---- from 0 to n

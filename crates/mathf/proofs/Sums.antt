@@ -1,30 +1,30 @@
 -- The whole part of a float below 2 ^ 23, by its sum with 2 ^ 23. From there to 2 ^ 24 the floats are the whole numbers, and their patterns follow one another.
--- So the sum's pattern is that of 2 ^ 23 with the whole part added, or the next one. Assumes nothing.
+-- So the sum's pattern is that of 2 ^ 23 with the whole part added, or the next one, and never past the ceiling. Assumes nothing.
 use mathlib.Core.Path.{_≡_, refl, sym, ap, subst, _∙_}
 use mathlib.Core.Logic.{_⊎_, inl, inr}
 use mathlib.Core.Bool.{Bool, true, false, not, true≢false}
 use Prim.Native.Nat.{ℕ, suc, _+_, _-_, _*_, _/_, _^_, _≤_, _<_}
-use native.Mathlib.Nat.{le-of-eq, le-trans, lt-of-le-of-lt, eq-or-lt-of-le, mul-one, add-mul, suc-mul, mul-right-comm, mul-le-mul-left, mul-le-mul-right, le-div-iff-mul-le, div-lt-iff-lt-mul, div-mul-le-self, lt-suc-self, lt-of-mul-lt-mul-right, le-of-mul-le-mul-right}
+use native.Mathlib.Nat.{le-of-eq, le-of-lt, le-trans, lt-of-lt-of-le, lt-of-le-of-lt, eq-or-lt-of-le, mul-one, add-mul, mul-right-comm, mul-le-mul-left, mul-le-mul-right, le-div-iff-mul-le, div-lt-iff-lt-mul, div-mul-le-self, lt-suc-self, lt-of-mul-lt-mul-right, le-of-mul-le-mul-right}
 use native.Mathlib.Omega.{arith}
 use lib.Dec.{T, lit≤, ltb→lt, nltb→le}
 use lib.IntN.{ℤ, pos}
 use lib.Pow.{pow-pos, pow-add}
-use lib.Ieee.{Float, nan, inf, fin, binary32, up, down, size, round, add, lt, le, isNan, toBits, ofBits, toUnsigned, ofInt}
+use lib.Ieee.{Float, nan, inf, fin, binary32, up, down, size, round, add, lt, le, isNan, toBits, ofBits, toUnsigned, toSigned, ofInt}
 use lib.Ieee.Fits.{down-pos, kept-lt, round-fits}
 use lib.Ieee.Digits.{size-le, size-lt, size-reaches}
 use lib.Ieee.Exact.{HasValue}
-use lib.Ieee.Casts.{toUnsigned-lt}
 use lib.Ieee.Back.{round-whole}
 use lib.Ieee.Nearest.{div-mono}
 use lib.Ieee.Order.{round-mono}
 use lib.Ieee.Scale.{round-same}
 use lib.Ieee.Positive.{num, den, den-pos, positive, positive-of-value, value→cross, le→cross, between, through}
 use lib.Ieee.Bits.{ofBits-fits, toBits-ofBits}
-use Rattle.mathf.specs.Whole.{wholeOf}
+use Rattle.mathf.specs.Whole.{wholeOf, ceilOf, takenUp}
 use Rattle.mathf.proofs.Patterns.{value-unique}
 use Rattle.mathf.proofs.Scaled.{below-pow, pattern-value, steps-value}
 use Rattle.mathf.proofs.Saturating.{passed, failed, under, uncapped}
-use Rattle.mathf.proofs.Bounds.{of-int}
+use Rattle.mathf.proofs.Floors.{lt-whole, ge-whole}
+use Rattle.mathf.proofs.Bounds.{of-int, signed-as, taken-le, taken-over}
 
 -- ---- patterns keep the order of n units, from 2 ^ 23 of them up
 abbrev bitsOf : ℕ → ℕ
@@ -135,13 +135,19 @@ ge-n (fin false p g) n m e v t =
     (subst (λ (z : ℕ). z ≤ m * up e * down g) (ap (λ (z : ℕ). z * down e) (sym (mul-one (p * up g)) ∙ v .1) ∙ mul-right-comm n (down g) (down e))
     (nltb→le (m * up e * down g) (p * up g * down e) t)) (down-pos g)
 
--- ---- the sum of x and 2 ^ 23, and how the whole part of x is told from the next number
+-- ---- the sum of x and 2 ^ 23, and how the whole part of x and its ceiling are told from the next number
 pub record Near (x : Float) : Type 0 where
   pub no-nan : T (not (isNan (add binary32 x (fin false 1 (pos 23)))))
   pub low : 150 * 2 ^ 23 + toUnsigned 23 x ≤ toBits binary32 (add binary32 x (fin false 1 (pos 23)))
-  pub high : toBits binary32 (add binary32 x (fin false 1 (pos 23))) ≤ 150 * 2 ^ 23 + toUnsigned 23 x + 1
+  pub ceil : ℕ
+  pub ceils : wholeOf false ceil ≡ ceilOf x
+  pub close : ceil ≤ toUnsigned 23 x + 1
+  pub few : ceil ≤ 2 ^ 23
+  pub high : toBits binary32 (add binary32 x (fin false 1 (pos 23))) ≤ 150 * 2 ^ 23 + ceil
   pub over : (n : ℕ) → n ≤ 2 ^ 23 → T (lt x (ofInt binary32 (pos n))) → toUnsigned 23 x < n
   pub under : (n : ℕ) → n ≤ 2 ^ 23 → T (not (lt x (ofInt binary32 (pos n)))) → n ≤ toUnsigned 23 x
+  pub short : (n : ℕ) → n ≤ 2 ^ 23 → T (lt (ofInt binary32 (pos n)) x) → n < ceil
+  pub reached : (n : ℕ) → n ≤ 2 ^ 23 → T (not (lt (ofInt binary32 (pos n)) x)) → ceil ≤ n
 
 module _ (m : ℕ) (e : ℤ) (h : T (lt (fin false m e) (fin false 1 (pos 23)))) where
   -- the whole part
@@ -157,8 +163,18 @@ module _ (m : ℕ) (e : ℤ) (h : T (lt (fin false m e) (fin false 1 (pos 23))))
   abbrev first : ℕ
   first = 2 ^ 23 + k
 
+  -- the ceiling
+  abbrev t : ℕ
+  t = takenUp (m * up e) (down e)
+
+  close : t ≤ suc k
+  close = taken-le (m * up e) (down e) (suc k) (down-pos e) (le-of-lt (div-lt-iff-lt-mul (down-pos e) .0 (lt-suc-self k)))
+
+  few-up : t ≤ 2 ^ 23
+  few-up = le-trans close few
+
   abbrev next : ℕ
-  next = 2 ^ 23 + suc k
+  next = 2 ^ 23 + t
 
   over-first : T (le (wholeOf false first) y)
   over-first =
@@ -171,9 +187,9 @@ module _ (m : ℕ) (e : ℤ) (h : T (lt (fin false m e) (fin false 1 (pos 23))))
   under-next : T (le y (wholeOf false next))
   under-next =
       round-mono binary32 (m * up e * 1 + 1 * 2 ^ 23 * down e) (down e * 1) next 1 (le-trans (down-pos e) (le-of-eq (sym (mul-one (down e))))) (pow-pos 0)
-      (rw (mul-one (down e), add-mul (2 ^ 23) (suc k) (down e), suc-mul k (down e)) (room (k * down e) (m * up e) (down e) (rw suc-mul at (div-lt-iff-lt-mul (down-pos e) .0 (lt-suc-self k)))))
+      (rw (mul-one (down e), add-mul (2 ^ 23) t (down e)) (room (t * down e) (m * up e) (down e) (taken-over (m * up e) (down e) (down-pos e))))
     where
-      room : (z a d : ℕ) → a < z + d → (a * 1 + 1 * 2 ^ 23 * d) * 1 ≤ 2 ^ 23 * d + (z + d)
+      room : (z a d : ℕ) → a ≤ z → (a * 1 + 1 * 2 ^ 23 * d) * 1 ≤ 2 ^ 23 * d + z
       room z a d h = omega arith
 
   lo-value : HasValue (wholeOf false first) false first 1
@@ -183,9 +199,9 @@ module _ (m : ℕ) (e : ℤ) (h : T (lt (fin false m e) (fin false 1 (pos 23))))
       room k h = omega arith
 
   hi-value : HasValue (wholeOf false next) false next 1
-  hi-value = round-whole binary32 false next (room k few)
+  hi-value = round-whole binary32 false next (room t few-up)
     where
-      room : (k : ℕ) → k < 2 ^ 23 → 2 ^ 23 + suc k ≤ 2 ^ 24
+      room : (k : ℕ) → k ≤ 2 ^ 23 → 2 ^ 23 + k ≤ 2 ^ 24
       room k h = omega arith
 
   lo-positive : T (positive (wholeOf false first))
@@ -195,9 +211,9 @@ module _ (m : ℕ) (e : ℤ) (h : T (lt (fin false m e) (fin false 1 (pos 23))))
       room k = omega arith
 
   hi-positive : T (positive (wholeOf false next))
-  hi-positive = positive-of-value (wholeOf false next) next 1 hi-value (room k)
+  hi-positive = positive-of-value (wholeOf false next) next 1 hi-value (room t)
     where
-      room : (k : ℕ) → 0 < 2 ^ 23 + suc k
+      room : (k : ℕ) → 0 < 2 ^ 23 + k
       room k = omega arith
 
   y-positive : T (positive y)
@@ -230,18 +246,26 @@ module _ (m : ℕ) (e : ℤ) (h : T (lt (fin false m e) (fin false 1 (pos 23))))
   same = uncapped k (2 ^ 23) few
 
   near-fin : Near (fin false m e)
-  unfolding add
+  unfolding add ceilOf
   near-fin =
       let a = whole-bits first (at-least k) (few-of k few) in
-      let b = whole-bits next (at-least (suc k)) (few-next k few) in
+      let b = whole-bits next (at-least t) (few-next t few-up) in
       let p = bits-order (wholeOf false first) y lo-positive y-positive lo-large over-first in
       let q = bits-order y (wholeOf false next) y-positive hi-positive (larger (wholeOf false first) y lo-positive y-positive lo-large over-first) under-next in
       record {
         no-nan = y-no-nan;
         low = low-of k (toBits binary32 y) same a p;
-        high = high-of k (toBits binary32 y) same b q;
+        ceil = t;
+        ceils = refl;
+        close = close-of k t same close;
+        few = few-up;
+        high = high-of t (toBits binary32 y) b q;
         over = λ n l t. le-trans (le-of-eq (ap suc same)) (div-lt-iff-lt-mul (down-pos e) .1 (lt-n (ofInt binary32 (pos n)) n m e (of-int n (le-trans l (lit≤ tt))) t));
         under = λ n l t. le-trans (le-div-iff-mul-le (down-pos e) .1 (ge-n (ofInt binary32 (pos n)) n m e (of-int n (le-trans l (lit≤ tt))) t)) (le-of-eq (sym same));
+        short = λ n l d.
+            lt-of-mul-lt-mul-right (down e)
+            (lt-of-lt-of-le (lt-whole (ofInt binary32 (pos n)) n m e (of-int n (le-trans l (lit≤ tt))) d) (taken-over (m * up e) (down e) (down-pos e)));
+        reached = λ n l d. taken-le (m * up e) (down e) n (down-pos e) (ge-whole (ofInt binary32 (pos n)) n m e (of-int n (le-trans l (lit≤ tt))) d);
       }
     where
       at-least : (k : ℕ) → 2 ^ 23 ≤ 2 ^ 23 + k
@@ -250,14 +274,17 @@ module _ (m : ℕ) (e : ℤ) (h : T (lt (fin false m e) (fin false 1 (pos 23))))
       few-of : (k : ℕ) → k < 2 ^ 23 → 2 ^ 23 + k ≤ 2 ^ 24
       few-of k h = omega arith
 
-      few-next : (k : ℕ) → k < 2 ^ 23 → 2 ^ 23 + suc k ≤ 2 ^ 24
+      few-next : (k : ℕ) → k ≤ 2 ^ 23 → 2 ^ 23 + k ≤ 2 ^ 24
       few-next k h = omega arith
+
+      close-of : (k t : ℕ) {u : ℕ} → u ≡ k → t ≤ suc k → t ≤ u + 1
+      close-of k t e h = omega arith
 
       low-of : (k p : ℕ) {u b : ℕ} → u ≡ k → b ≡ 149 * 2 ^ 23 + (2 ^ 23 + k) → b ≤ p → 150 * 2 ^ 23 + u ≤ p
       low-of k p e f h = omega arith
 
-      high-of : (k p : ℕ) {u b : ℕ} → u ≡ k → b ≡ 149 * 2 ^ 23 + (2 ^ 23 + suc k) → p ≤ b → p ≤ 150 * 2 ^ 23 + u + 1
-      high-of k p e f h = omega arith
+      high-of : (t p : ℕ) {b : ℕ} → b ≡ 149 * 2 ^ 23 + (2 ^ 23 + t) → p ≤ b → p ≤ 150 * 2 ^ 23 + t
+      high-of t p f h = omega arith
 
 pub near : (x : Float) → T (lt (fin false 0 (pos 0)) x) ⊎ (x ≡ fin false 0 (pos 0)) → T (lt x (fin false 1 (pos 23))) → Near x
 near x (inr z) h = subst Near (sym z) (near-fin 0 (pos 0) (subst (λ (v : Float). T (lt v (fin false 1 (pos 23)))) z h))
@@ -270,26 +297,50 @@ near x (inl a) h = go x a h
     go (fin true m e) a h = absurd (unfold lt in a)
     go (fin false m e) a h = near-fin m e h
 
--- ---- the ways through `cut`
+-- ---- the ways through `cut` and `ceil_i`
 module _ (x : Float) (t : Near x) where
+  abbrev sum : ℕ
+  sum = toBits binary32 (add binary32 x (fin false 1 (pos 23)))
+
   -- the sum's place above 2 ^ 23
   abbrev pub place : ℕ
-  place = toBits binary32 (add binary32 x (fin false 1 (pos 23))) - 150 * 2 ^ 23
+  place = sum - 150 * 2 ^ 23
 
   pub place-few : place ≤ 2 ^ 23
-  place-few = room (toBits binary32 (add binary32 x (fin false 1 (pos 23)))) (toUnsigned 23 x) (t .high) (toUnsigned-lt 23 x)
+  place-few = room sum (t .ceil) (t .high) (t .few)
     where
-      room : (p u : ℕ) → p ≤ 150 * 2 ^ 23 + u + 1 → u < 2 ^ 23 → p - 150 * 2 ^ 23 ≤ 2 ^ 23
-      room p u h l = omega arith
+      room : (p c : ℕ) → p ≤ 150 * 2 ^ 23 + c → c ≤ 2 ^ 23 → p - 150 * 2 ^ 23 ≤ 2 ^ 23
+      room p c h l = omega arith
 
   pub place-over : lt x (ofInt binary32 (pos place)) ≡ true → (1 ≤ place) × (place - 1 ≡ toUnsigned 23 x)
-  place-over e = room (toBits binary32 (add binary32 x (fin false 1 (pos 23)))) (toUnsigned 23 x) (t .high) (t .over place place-few (passed e))
+  place-over e = room sum (toUnsigned 23 x) (t .ceil) (t .high) (t .close) (t .over place place-few (passed e))
     where
-      room : (p u : ℕ) → p ≤ 150 * 2 ^ 23 + u + 1 → u < p - 150 * 2 ^ 23 → (1 ≤ p - 150 * 2 ^ 23) × (p - 150 * 2 ^ 23 - 1 ≡ u)
-      room p u h l = (omega arith, omega arith)
+      room : (p u c : ℕ) → p ≤ 150 * 2 ^ 23 + c → c ≤ u + 1 → u < p - 150 * 2 ^ 23 → (1 ≤ p - 150 * 2 ^ 23) × (p - 150 * 2 ^ 23 - 1 ≡ u)
+      room p u c h k l = (omega arith, omega arith)
 
   pub place-is : lt x (ofInt binary32 (pos place)) ≡ false → place ≡ toUnsigned 23 x
-  place-is e = room (toBits binary32 (add binary32 x (fin false 1 (pos 23)))) (toUnsigned 23 x) (t .low) (t .under place place-few (failed e))
+  place-is e = room sum (toUnsigned 23 x) (t .low) (t .under place place-few (failed e))
     where
       room : (p u : ℕ) → 150 * 2 ^ 23 + u ≤ p → p - 150 * 2 ^ 23 ≤ u → p - 150 * 2 ^ 23 ≡ u
       room p u h l = omega arith
+
+  pub place-short : lt (ofInt binary32 (pos place)) x ≡ true → pos (place + 1) ≡ toSigned 31 (ceilOf x)
+  place-short e = signed-as (ceilOf x) (place + 1) (wide place place-few) (ap (wholeOf false) next ∙ t .ceils)
+    where
+      room : (p u c : ℕ) → 150 * 2 ^ 23 + u ≤ p → c ≤ u + 1 → p - 150 * 2 ^ 23 < c → p - 150 * 2 ^ 23 + 1 ≡ c
+      room p u c h k l = omega arith
+
+      next : place + 1 ≡ t .ceil
+      next = room sum (toUnsigned 23 x) (t .ceil) (t .low) (t .close) (t .short place place-few (passed e))
+
+      wide : (p : ℕ) → p ≤ 2 ^ 23 → p + 1 ≤ 2 ^ 24
+      wide p h = omega arith
+
+  pub place-reached : lt (ofInt binary32 (pos place)) x ≡ false → pos place ≡ toSigned 31 (ceilOf x)
+  place-reached e = signed-as (ceilOf x) place (le-trans place-few (lit≤ tt)) (ap (wholeOf false) same ∙ t .ceils)
+    where
+      room : (p c : ℕ) → p ≤ 150 * 2 ^ 23 + c → c ≤ p - 150 * 2 ^ 23 → p - 150 * 2 ^ 23 ≡ c
+      room p c h l = omega arith
+
+      same : place ≡ t .ceil
+      same = room sum (t .ceil) (t .high) (t .reached place place-few (failed e))

@@ -18,4 +18,6 @@ pub use crate::order::saturate;
 pub use crate::order::smoothstep;
 pub use crate::root::sqrt;
 pub use crate::whole::ceil;
+pub use crate::whole::ceil_i;
 pub use crate::whole::floor;
+pub use crate::whole::floor_i;
