@@ -1,66 +1,27 @@
 -- How two runs of items differ: counts that differ, what the items seen so far tell with those after them, and a turn of the loop. Assumes nothing.
 use Prim.Native.Nat.{ℕ, zero, suc, _+_}
 use mathlib.Core.Path.{_≡_, refl, sym, ap, _∙_}
-use mathlib.Core.Bool.{Bool, true, false, cond, _&&_, true≢false, false≢true}
+use mathlib.Core.Bool.{Bool, true, false, cond, _&&_, true≢false}
 use mathlib.Core.List.{List, []}
 use native.Mathlib.Nat.{zero-add}
 use native.Mathlib.Numerals.{add-one}
 use native.Mathlib.Omega.{arith}
 use lib.Dec.{eqb, leb}
 use lib.ListN.{length}
-use borrow.Author.Tests.{ne-eqb}
 use Rattle.geom.specs.Box.{noBox, meet, join, joinAll, hull}
 use Rattle.geom.specs.declared.IRect.{IRect}
 use Rattle.geom.proofs.Bools.{and-left, and-right}
 use Rattle.geom.proofs.Boxes.{join-assoc, join-none}
-use Rattle.sheet.specs.Kinds.{kindAt}
 use Rattle.sheet.specs.Check.{countOf, bytesAt}
 use Rattle.redraw.specs.Drawing as drawing
 use Rattle.redraw.specs.Drawing.{push, pop, shape}
 use Rattle.redraw.specs.Sheet.{Change, other, shapes, withPair, bothShapes, change, few, reaches, Sheet, refuses, canvas, lent, tooMany, patchBy}
-use Rattle.items.specs.Items.{readFill, readStroke, readLine, readPoly, readShadow, readChain, readItem, itemOf}
-use Rattle.items.specs.Format.{kind, format, drawnAs, itemIn, itemsFrom, sameItem}
-use Rattle.items.specs.declared.Item.{Item}
-use Rattle.items.specs.declared.Item.the-variants.{Push, Pop, Fill, Stroke, Line, Poly, Shadow, Chain, Unknown}
+use Rattle.items.specs.Items.{itemOf}
+use Rattle.items.specs.Format.{kind, format, itemIn, itemsFrom, sameItem}
+use Rattle.clips.specs.States.{isShape}
+use Rattle.clips.proofs.Shapes.{shape-own}
 use Rattle.compare.specs.declared.Difference.{Difference}
-use Rattle.compare.specs.Compare.{changeFrom, found, changeNumber, changeBox, told, changedBy, settled, isShape, sameAt}
-
--- ---- a shape, by its kind
-
-pub no-push : (b : List ℕ) → kindAt b 0 ≡ 1 → false ≡ isShape (itemIn b)
-unfolding readItem drawnAs isShape
-no-push b k = simp k
-
-pub no-pop : (b : List ℕ) → kindAt b 0 ≡ 2 → false ≡ isShape (itemIn b)
-unfolding readItem drawnAs isShape
-no-pop b k = simp k
-
-pub a-shape : (b : List ℕ) → (kindAt b 0 ≡ 1 → ⊥) → (kindAt b 0 ≡ 2 → ⊥) → true ≡ isShape (itemIn b)
-unfolding readItem drawnAs isShape
-a-shape b p q =
-    let is : ℕ → Bool = λ n. eqb (kindAt b 0) n in
-    rw (ne-eqb (kindAt b 0) 1 p, ne-eqb (kindAt b 0) 2 q) (go (is 3) (is 4) (is 5) (is 6) (is 7) (is 8))
-  where
-    go : (r s t u v w : Bool) → true ≡ isShape (drawnAs b (cond r (readFill b 0) (cond s (readStroke b 0) (cond t (readLine b 0) (cond u (readPoly b 0) (cond v (readShadow b 0) (cond w (readChain b 0) Unknown)))))))
-    go true s t u v w = refl
-    go false true t u v w = refl
-    go false false true u v w = refl
-    go false false false true v w = refl
-    go false false false false true w = refl
-    go false false false false false true = refl
-    go false false false false false false = refl
-
-shape-own : (b : List ℕ) (i : Item) → isShape (drawnAs b i) ≡ true → drawnAs b i ≡ shape b
-unfolding drawnAs isShape
-shape-own b (Push rect) e = absurd (false≢true e)
-shape-own b Pop e = absurd (false≢true e)
-shape-own b (Fill rect r paint) e = refl
-shape-own b (Stroke rect r width color) e = refl
-shape-own b (Line p q width color) e = refl
-shape-own b (Poly paint count) e = refl
-shape-own b (Shadow rect r blur color skip) e = refl
-shape-own b (Chain width color count) e = refl
-shape-own b Unknown e = refl
+use Rattle.compare.specs.Compare.{changeFrom, found, changeNumber, changeBox, told, changedBy, settled, sameAt}
 
 -- ---- what differences tell
 

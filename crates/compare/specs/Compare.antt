@@ -1,13 +1,11 @@
 -- How two sheets differ (document 01, a patch), by any bytes: redraw's `change` at the format of items. Assumes nothing.
 use Prim.Native.Nat.{ℕ}
-use mathlib.Core.Bool.{Bool, true, false, cond}
+use mathlib.Core.Bool.{Bool, cond}
 use mathlib.Core.List.{List}
 use lib.Dec.{leb}
 use Rattle.geom.specs.Box.{noBox, hull}
 use Rattle.geom.specs.declared.IRect.{IRect}
 use Rattle.sheet.specs.Check.{countOf, bytesAt}
-use Rattle.redraw.specs.Drawing as drawing
-use Rattle.redraw.specs.Drawing.{push, pop, shape}
 use Rattle.redraw.specs.Sheet.{Change, other, shapes, change, few, reaches}
 use Rattle.items.specs.Items.{itemOf}
 use Rattle.items.specs.Format.{reachOf, kind, itemIn, itemsFrom, sameItem}
@@ -44,11 +42,6 @@ settled n area = cond (leb n 32) (told 0 area) (told 14 noBox)
 
 abbrev pub reachAt : List ℕ → ℕ → IRect
 reachAt s k = reachOf (bytesAt s k) (itemOf (bytesAt s k))
-
-unfoldable pub isShape : drawing.Item (List ℕ) → Bool
-isShape (push b box) = false
-isShape (pop b) = false
-isShape (shape b) = true
 
 unfoldable pub sameAt : List ℕ → List ℕ → ℕ → Bool
 sameAt old new k = sameItem (itemIn (bytesAt old k)) (itemIn (bytesAt new k))

@@ -1,10 +1,11 @@
 // How two sheets differ: what a patch needs to know of them. Every function here takes any bytes at all.
+use clips::canvas_of;
+use clips::is_shape;
 use geom::IRect;
 use geom::join;
 use items::ground;
 use items::part_at;
 use items::reaches::reach;
-use sheet::byte_at;
 use sheet::u16_at;
 ghost use mathlib.Core.Path.{_≡_};
 ghost use mathlib.Core.Bool.{_&&_};
@@ -14,7 +15,8 @@ ghost use Rattle.geom.specs.Box.{meet, noBox};
 ghost use Rattle.sheet.specs.Check.{bytesAt};
 ghost use Rattle.redraw.specs.Sheet.{canvas, sameHeader};
 ghost use Rattle.items.specs.Format.{sameBytes, itemIn, sheetOf};
-ghost use Rattle.compare.specs.Compare.{isShape, sameAt, changeFrom, found, reachAt, told, settled, changedBy};
+ghost use Rattle.clips.specs.States.{isShape};
+ghost use Rattle.compare.specs.Compare.{sameAt, changeFrom, found, reachAt, told, settled, changedBy};
 
 // What a patch is refused with, 10, 14 or 0, and the box that it redraws.
 pub struct Difference {
@@ -50,19 +52,14 @@ fn same_at(old: &[u8], new: &[u8], k: u16) -> bool
     same_bytes(&old[from..to], &new[start..end])
 }
 
-// Whether the item k is a shape: neither a push nor a pop.
+// Whether the item k is a shape.
 fn shape_at(s: &[u8], k: u16) -> bool
     ensures { λ r. ⌜ r ≡ isShape (itemIn (bytesAt (now (s .entry)) k)) ⌝ }
 {
     let p = part_at(s, k);
     let from = p.from;
     let to = p.to;
-    let kind = byte_at(&s[from..to], 0);
-    match kind {
-        1 => false,
-        2 => false,
-        0 | 3..=255 => true,
-    }
+    is_shape(&s[from..to])
 }
 
 // Whether both items k are shapes.
@@ -70,15 +67,6 @@ fn both_shapes(old: &[u8], new: &[u8], k: u16) -> bool
     ensures { λ r. ⌜ r ≡ isShape (itemIn (bytesAt (now (old .entry)) k)) && isShape (itemIn (bytesAt (now (new .entry)) k)) ⌝ }
 {
     shape_at(old, k) & shape_at(new, k)
-}
-
-// The canvas of a sheet.
-fn frame(s: &[u8]) -> IRect
-    ensures { λ r. ⌜ r ≡ canvas (sheetOf (now (s .entry))) ⌝ }
-{
-    let w = u16_at(s, 0);
-    let h = u16_at(s, 2);
-    IRect::new(0, 0, w as i32, h as i32)
 }
 
 // The reach of the item k.
@@ -127,7 +115,7 @@ fn changed_in(old: &[u8], new: &[u8], n: usize) -> Difference
     requires { ⌜ n < 65536 ⌝ }
     ensures { λ r. ⌜ r ≡ changedBy (canvas (sheetOf (now (new .entry)))) (changeFrom (now (old .entry)) (now (new .entry)) n 0) ⌝ }
 {
-    let canvas = frame(new);
+    let canvas = canvas_of(new);
     let mut area = IRect::new(0, 0, 0, 0);
     let mut count = 0;
     for k in 0..n {

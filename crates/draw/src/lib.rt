@@ -41,7 +41,7 @@ pub fn clipped(reach: IRect, clip: IRect) -> Area
     area_of(b)
 }
 
-fn larger(a: usize, b: usize) -> usize
+pub fn larger(a: usize, b: usize) -> usize
     ensures { λ r. ⌜ r ≡ max a b ⌝ }
 {
     if a < b { b } else { a }

@@ -4,3 +4,4 @@ pub mod Sound
 pub mod PolyPoints
 pub mod Shapeless
 pub mod Lawful
+pub mod Readings

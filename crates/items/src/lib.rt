@@ -80,10 +80,27 @@ pub(crate) fn read_pt(s: &[u8], p: usize) -> Pt
     Pt::new(f32_at(s, p), f32_at(s, p + 4))
 }
 
-pub(crate) fn read_rect(s: &[u8], p: usize) -> Rect
+// A rectangle of which bytes may lie past the end.
+fn cut_rect(s: &[u8], p: usize) -> Rect
     requires { ⌜ p < 131072 ⌝ }
     ensures { λ r. ⌜ r ≡ readRect (now (s .entry)) p ⌝ }
 {
+    Rect::new(
+        f32_at(s, p),
+        f32_at(s, p + 4),
+        f32_at(s, p + 8),
+        f32_at(s, p + 12),
+    )
+}
+
+// One test for its sixteen bytes, so that none of them needs its own.
+pub fn read_rect(s: &[u8], p: usize) -> Rect
+    requires { ⌜ p < 131072 ⌝ }
+    ensures { λ r. ⌜ r ≡ readRect (now (s .entry)) p ⌝ }
+{
+    if s.len() < p + 16 {
+        return cut_rect(s, p);
+    }
     Rect::new(
         f32_at(s, p),
         f32_at(s, p + 4),
@@ -234,10 +251,24 @@ pub struct Part {
     pub to: usize,
 }
 
-// Where the bytes of the item k lie; no byte past the sheet's end is one of them.
+// Where the bytes of the item k lie, of whose pair bytes may lie past the end.
+fn cut_part(s: &[u8], k: u16) -> Part
+    ensures { λ r. ⌜ Lies (now (s .entry)) k (r .from) (r .to) ⌝ }
+{
+    let at = u16_at(s, 12 + 4 * k as usize);
+    let len = u16_at(s, 14 + 4 * k as usize);
+    let from = least(at, s.len());
+    let to = least(at + len, s.len());
+    Part { from, to }
+}
+
+// Where the bytes of the item k lie; no byte past the sheet's end is one of them. One test for the pair, so that none of its bytes needs its own.
 pub fn part_at(s: &[u8], k: u16) -> Part
     ensures { λ r. ⌜ Lies (now (s .entry)) k (r .from) (r .to) ⌝ }
 {
+    if s.len() < 16 + 4 * k as usize {
+        return cut_part(s, k);
+    }
     let at = u16_at(s, 12 + 4 * k as usize);
     let len = u16_at(s, 14 + 4 * k as usize);
     let from = least(at, s.len());

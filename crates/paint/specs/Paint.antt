@@ -1,24 +1,19 @@
--- What painting and patching share: a state with any first clip, and the refusals of what is lent. Assumes nothing.
+-- What painting and patching share: the need of a sheet, and the refusals of what is lent. Assumes nothing.
 use Prim.Native.Nat.{ℕ, _*_}
 use mathlib.Core.Bool.{cond}
 use mathlib.Core.List.{List}
 use lib.Dec.{leb, eqb}
 use lib.Ieee.{Float}
-use lib.IntN.{ℤ, pos}
+use lib.IntN.{pos}
 use lib.ListN.{length, replicate}
-use Rattle.geom.specs.Box.{noBox}
 use Rattle.geom.specs.declared.IRect.{IRect}
 use Rattle.color.specs.Colours.{pixOf}
 use Rattle.gfx.specs.Calls.{left, pxNumber}
-use Rattle.gfx.specs.declared.Canvas.{Canvas}
 use Rattle.sheet.specs.Check.{widthOf, heightOf, countOf}
 use Rattle.items.specs.Items.{groundOf}
 use Rattle.items.specs.Format.{needs, itemsFrom}
+use Rattle.clips.specs.States.{stateIn}
 use Rattle.render.specs.Stages.{Stage, stage, stagesFrom}
-
--- a canvas with a first clip and nothing saved
-unfoldable pub stateIn : ℤ → ℤ → IRect → Canvas
-stateIn w h first = record { w = w; h = h; clip = first; saved = replicate 16 noBox; depth = 0 }
 
 -- the scratch words that a sheet needs: the greatest need among its polygons
 abbrev pub needIn : List ℕ → ℕ

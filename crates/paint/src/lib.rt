@@ -1,6 +1,8 @@
 // Painting a sheet, and what patching shares with it.
+use clips::canvas_of;
+use clips::first_state;
+use draw::larger;
 use geom::IRect;
-use gfx::Canvas;
 use items::ground;
 use items::part_at;
 use items::reaches::need;
@@ -9,17 +11,13 @@ use render::render;
 use sheet::check_sheet;
 use sheet::u16_at;
 ghost use mathlib.Core.Path.{_≡_};
-ghost use Prim.Native.Nat.{_<_, max};
-ghost use lib.IntN.{pos};
-ghost use lib.ListN.{length};
-ghost use Rattle.sheet.specs.Bytes.{u16At};
-ghost use Rattle.sheet.specs.Check.{widthOf, heightOf, bytesAt};
+ghost use Rattle.sheet.specs.Check.{bytesAt};
 ghost use Rattle.items.specs.Items.{itemOf};
-ghost use Rattle.items.specs.Format.{needOf, format, zeroWord, sheetOf};
-ghost use Rattle.redraw.specs.Sheet.{refusal, canvas};
+ghost use Rattle.items.specs.Format.{needOf, format, zeroWord};
+ghost use Rattle.redraw.specs.Sheet.{refusal};
 ghost use Rattle.redraw.specs.Calls.{Painted};
 ghost use Rattle.render.specs.Stages.{Left};
-ghost use Rattle.paint.specs.Paint.{stateIn, needIn, lentNumber, drawnAll};
+ghost use Rattle.paint.specs.Paint.{needIn, lentNumber, drawnAll};
 
 // A refusal's answer: its box is four zeros.
 pub fn refusal(number: u32, item: u32) -> Answer
@@ -27,49 +25,6 @@ pub fn refusal(number: u32, item: u32) -> Answer
 {
     let area = IRect::new(0, 0, 0, 0);
     Answer { number, item, area }
-}
-
-// A canvas with a first clip and nothing saved.
-pub fn state_in(w: i32, h: i32, first: IRect) -> Canvas
-    ensures { λ r. ⌜ r ≡ stateIn w h first ⌝ }
-{
-    let zero = IRect::ZERO;
-    let saved = [zero; 16];
-    Canvas {
-        w,
-        h,
-        clip: first,
-        saved,
-        depth: 0,
-    }
-}
-
-// A side of a sheet's canvas, by its place in the header.
-fn side(s: &[u8], at: usize) -> i32
-    requires { ⌜ at < 16 ⌝ }
-    ensures { λ r. ⌜ r ≡ pos (u16At (now (s .entry)) at) ⌝ }
-{
-    u16_at(s, at) as i32
-}
-
-// The whole canvas of a sheet.
-pub fn canvas_of(s: &[u8]) -> IRect
-    ensures { λ r. ⌜ r ≡ canvas (sheetOf (now (s .entry))) ⌝ }
-{
-    IRect::new(0, 0, side(s, 0), side(s, 2))
-}
-
-// The state in which a sheet is drawn with a first clip.
-pub fn first_state(s: &[u8], first: IRect) -> Canvas
-    ensures { λ r. ⌜ r ≡ stateIn (pos (widthOf (now (s .entry)))) (pos (heightOf (now (s .entry)))) first ⌝ }
-{
-    state_in(side(s, 0), side(s, 2), first)
-}
-
-fn larger(a: usize, b: usize) -> usize
-    ensures { λ r. ⌜ r ≡ max a b ⌝ }
-{
-    if a < b { b } else { a }
 }
 
 // What the item k needs.

@@ -32,8 +32,11 @@ use Rattle.redraw.specs.Sheet.{Reading, read, Change, other, shapes, reaches, f
 use Rattle.redraw.proofs.Drawn.{length-each}
 use Rattle.compare.specs.Compare.{found, changeNumber, changeBox}
 use Rattle.compare.proofs.Changes.{patch-by}
-use Rattle.paint.specs.Paint.{stateIn, needIn, lentNumber}
-use Rattle.paint.proofs.Painting.{reads-accepted, state-sound, items-px, items-scratch, lent-outcome, lent-draws}
+use Rattle.clips.specs.States.{stateIn}
+use Rattle.clips.proofs.Standing.{stands-first}
+use Rattle.paint.specs.Paint.{needIn, lentNumber}
+use Rattle.items.proofs.Readings.{reads-accepted}
+use Rattle.paint.proofs.Painting.{items-px, items-scratch, lent-outcome, lent-draws}
 use Rattle.patch.specs.Patch.{drawnBox, BoxFits}
 
 pub same-width : (old new : List ℕ) → sameHeader (sheetOf old) (sheetOf new) ≡ true → widthOf old ≡ widthOf new
@@ -137,7 +140,7 @@ module _ (s : List ℕ) (e : sheetCheck s ≡ verdict 0 0) (area : IRect) (ok : 
   unfolding stateIn
   box-fits =
       canvas-fits (stateIn (pos (widthOf s)) (pos (heightOf s)) area) (length px) area
-      (record { valid = state-sound s e area ok .valid; count = count })
+      (record { valid = stands-first s area e ok .sound .valid; count = count })
 
   module _ (scratch : List Float) (words : needIn s ≤ length scratch) where
     grounded : length (groundIn (widthOf s) area (pixOf (groundOf s)) px) ≡ widthOf s * heightOf s

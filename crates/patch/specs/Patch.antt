@@ -11,7 +11,7 @@ use Rattle.sheet.specs.Check.{widthOf, heightOf, countOf, verdict, sheetCheck}
 use Rattle.items.specs.Items.{groundOf}
 use Rattle.redraw.specs.Drawing.{groundIn}
 use Rattle.render.specs.Stages.{Stage, stage, stagesFrom}
-use Rattle.paint.specs.Paint.{stateIn}
+use Rattle.clips.specs.States.{stateIn}
 
 -- the box set to the ground, then the items with the box as first clip and nothing saved
 unfoldable pub drawnBox : List ℕ → IRect → List ℕ → List Float → Stage

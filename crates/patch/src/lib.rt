@@ -1,11 +1,11 @@
 // Patching: the canvas of one sheet altered to that of another, in the box where they differ.
+use clips::first_state;
 use compare::changed;
 use compare::same_header;
 use draw::Area;
 use draw::clipped;
 use geom::IRect;
 use items::ground;
-use paint::first_state;
 use paint::lent_number;
 use paint::refusal;
 use redraw::Answer;

@@ -10,25 +10,23 @@ use Rattle.geom.specs.Int.{up}
 use Rattle.geom.specs.declared.IRect.{IRect}
 use Rattle.gfx.specs.Calls.{areaOf}
 use Rattle.gfx.specs.declared.Canvas.{Canvas}
-use Rattle.gfx.proofs.Kept.{Sound}
 use Rattle.gfx.proofs.Sizes.{Open}
 use Rattle.poly.specs.Poly.{cleared}
-use Rattle.sheet.specs.Kinds.{depthAfter}
-use Rattle.sheet.specs.Check.{countOf, bytesAt, depthAt, verdict, sheetCheck}
-use Rattle.sheet.proofs.Accepted.{AcceptedItem, accepted-item, depthBefore, depth-next}
-use Rattle.sheet.proofs.Local.{kind-same}
+use Rattle.sheet.specs.Check.{countOf, bytesAt, verdict, sheetCheck}
 use Rattle.items.specs.Items.{itemOf}
 use Rattle.items.specs.Format.{needOf, drawnAs, itemIn, itemNeed, needs, itemsFrom, kind}
 use Rattle.items.specs.declared.Item.{Item}
 use Rattle.items.specs.declared.Item.the-variants.{Push, Pop, Fill, Stroke, Line, Poly, Shadow, Chain, Unknown}
-use Rattle.items.proofs.Sound.{itemOk, savedAfter, item-ok, saved-after}
+use Rattle.items.proofs.Sound.{itemOk}
 use Rattle.redraw.specs.Drawing as drawing
 use Rattle.redraw.specs.Drawing.{push, pop, shape, itemOn, itemsOn}
 use Rattle.redraw.proofs.Items.{length-shape}
-use Rattle.render.specs.Stages.{Stage, stateAfter, stageAfter, stagesFrom}
-use Rattle.render.proofs.Clips.{clipsOf}
+use Rattle.clips.specs.States.{stateAfter}
+use Rattle.clips.proofs.Clips.{clipsOf}
+use Rattle.clips.proofs.Standing.{Standing, item-stands, stands-next, clips-next}
+use Rattle.render.specs.Stages.{Stage, stageAfter, stagesFrom}
 use Rattle.render.proofs.Cleared.{cleared-length, cleared-none, cleared-twice}
-use Rattle.render.proofs.Steps.{After, after-item, px-item, scratch-item}
+use Rattle.render.proofs.Steps.{px-item, scratch-item}
 
 -- an item needs what its bytes need
 pub need-in : (b : List ℕ) (i : Item) → itemOf b ≡ i → itemNeed (drawnAs b i) ≡ needOf b i
@@ -52,9 +50,8 @@ length-item pitch (shape b) clip px = length-shape kind pitch clip b px
 
 -- what is asked of a stage at the item k of a sheet, where the items from k on need so many words
 pub record At (s : List ℕ) (k : ℕ) (t : Stage) (need : ℕ) : Type 0 where
-  pub sound : Sound (t .canvas)
+  pub stands : Standing s k (t .canvas)
   pub count : length (t .px) ≡ areaOf (t .canvas .w) (t .canvas .h)
-  pub depth : t .canvas .depth ≡ depthBefore s k
   pub words : need ≤ length (t .scratch)
 
 module _ (s : List ℕ) (e : sheetCheck s ≡ verdict 0 0) (k : ℕ) (h : k < countOf s) (t : Stage) (rest : List (drawing.Item (List ℕ)))
@@ -65,14 +62,11 @@ module _ (s : List ℕ) (e : sheetCheck s ≡ verdict 0 0) (k : ℕ) (h : k < co
   abbrev c : Canvas
   c = t .canvas
 
-  item : AcceptedItem s k
-  item = accepted-item s k e h
-
   ok : itemOk b (c .depth) (itemOf b) ≡ true
-  ok = rw (a .depth) (item-ok s k item)
+  ok = item-stands s e k h c (a .stands)
 
   opened : Open c (length (t .px))
-  opened = record { valid = a .sound .valid; count = a .count }
+  opened = record { valid = a .stands .sound .valid; count = a .count }
 
   room : (needOf b (itemOf b) ≤ length (t .scratch)) × (needs rest ≤ length (t .scratch))
   unfolding needs
@@ -80,8 +74,15 @@ module _ (s : List ℕ) (e : sheetCheck s ≡ verdict 0 0) (k : ℕ) (h : k < co
       let both : max (needOf b (itemOf b)) (needs rest) ≤ length (t .scratch) = rw (need-in b (itemOf b) refl) at (a .words) in
       (omega arith, omega arith)
 
-  next-state : After b (itemOf b) c (stateAfter (itemOf b) c)
-  next-state = after-item b c (a .sound) (itemOf b) ok
+  next-stands : Standing s (k + 1) (stateAfter (itemOf b) c)
+  next-stands = stands-next s e k h c (a .stands)
+
+  -- the sides stay
+  pub next-wide : stateAfter (itemOf b) c .w ≡ c .w
+  next-wide = next-stands .wide ∙ sym (a .stands .wide)
+
+  next-high : stateAfter (itemOf b) c .h ≡ c .h
+  next-high = next-stands .high ∙ sym (a .stands .high)
 
   next-px : stageAfter b t .px ≡ itemOn kind (up (c .w)) (itemIn b) (c .clip) (t .px)
   unfolding stageAfter
@@ -91,18 +92,12 @@ module _ (s : List ℕ) (e : sheetCheck s ≡ verdict 0 0) (k : ℕ) (h : k < co
   unfolding stageAfter
   next-scratch = rw (need-in b (itemOf b) refl) (scratch-item b c (t .px) opened (t .scratch) (itemOf b) ok (room .0))
 
-  next-depth : savedAfter (itemOf b) (c .depth) ≡ depthBefore s (k + 1)
-  unfolding depthAt
-  next-depth =
-      rw (a .depth) (sym (saved-after b 0 (depthBefore s k)) ∙ ap (λ (n : ℕ). depthAfter n (depthBefore s k)) (kind-same s k item) ∙ sym (depth-next s k))
-
   next-at : At s (k + 1) (stageAfter b t) (needs rest)
   unfolding stageAfter
   next-at =
       record {
-        sound = next-state .sound;
-        count = ap length next-px ∙ length-item _ (itemIn b) _ (t .px) ∙ a .count ∙ rw (next-state .wide, next-state .high);
-        depth = next-state .depth ∙ next-depth;
+        stands = next-stands;
+        count = ap length next-px ∙ length-item _ (itemIn b) _ (t .px) ∙ a .count ∙ rw (next-wide, next-high);
         words = rw (next-scratch, cleared-length (itemNeed (itemIn b)) (t .scratch) (rw (need-in b (itemOf b) refl) (room .0))) (room .1);
       }
 
@@ -113,9 +108,8 @@ module _ (s : List ℕ) (e : sheetCheck s ≡ verdict 0 0) where
   drawn-px zero k t h a = refl
   drawn-px (suc n) k t h a =
       let l : k < countOf s = omega arith in
-      let st = next-state s e k l t (itemsFrom s n (k + 1)) a in
       drawn-px n (k + 1) (stageAfter (bytesAt s k) t) (omega arith) (next-at s e k l t (itemsFrom s n (k + 1)) a)
-      ∙ rw (st .wide, st .clips, next-px s e k l t (itemsFrom s n (k + 1)) a)
+      ∙ rw (next-wide s e k l t (itemsFrom s n (k + 1)) a, clips-next s e k l (t .canvas) (a .stands), next-px s e k l t (itemsFrom s n (k + 1)) a)
 
   pub drawn-scratch : (n k : ℕ) (t : Stage) → k + n ≡ countOf s → At s k t (needs (itemsFrom s n k))
       → stagesFrom s n k t .scratch ≡ cleared (needs (itemsFrom s n k)) (t .scratch)

@@ -1,6 +1,5 @@
 -- The laws of drawing items. Assumes nothing.
 pub mod Turns
-pub mod Clips
 pub mod Cleared
 pub mod Steps
 pub mod Drawing

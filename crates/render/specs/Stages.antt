@@ -8,12 +8,11 @@ use lib.Dec.{leb, eqb}
 use lib.Ieee.{Float}
 use lib.ListN.{length}
 use Rattle.geom.specs.Int.{up}
-use Rattle.geom.specs.Plane.{floatOk, outerOf}
+use Rattle.geom.specs.Plane.{floatOk}
 use Rattle.geom.specs.declared.IRect.{IRect}
 use Rattle.color.specs.declared.Color.{Color}
 use Rattle.draw.specs.Draw.{drawn}
-use Rattle.gfx.specs.State.{pushed, popped}
-use Rattle.gfx.specs.Calls.{answer, left, stateNumber, pushNumber, shapeNumber}
+use Rattle.gfx.specs.Calls.{left, shapeNumber}
 use Rattle.gfx.specs.Points.{pointsNumber}
 use Rattle.gfx.specs.declared.Canvas.{Canvas}
 use Rattle.paints.specs.declared.Paint.{Paint}
@@ -27,18 +26,7 @@ use Rattle.sheet.specs.Check.{bytesAt}
 use Rattle.items.specs.Items.{itemOf, pointsOf, jointsOf}
 use Rattle.items.specs.declared.Item.{Item}
 use Rattle.items.specs.declared.Item.the-variants.{Push, Pop, Fill, Stroke, Line, Poly, Shadow, Chain, Unknown}
-
--- the state that `push_clip` or `pop_clip` returns; a shape leaves it
-unfoldable pub stateAfter : Item → Canvas → Canvas
-stateAfter (Push rect) c = answer (pushNumber c rect) c (pushed c (outerOf rect)) .canvas
-stateAfter Pop c = answer (stateNumber c) c (popped c) .canvas
-stateAfter (Fill rect r paint) c = c
-stateAfter (Stroke rect r width color) c = c
-stateAfter (Line a e width color) c = c
-stateAfter (Poly paint count) c = c
-stateAfter (Shadow rect r blur color skip) c = c
-stateAfter (Chain width color count) c = c
-stateAfter Unknown c = c
+use Rattle.clips.specs.States.{stateAfter}
 
 -- px after a shape call, by whether its floats are in range
 abbrev pub called : Canvas → Bool → IRect → (ℕ → ℕ → ℕ → ℕ) → List ℕ → List ℕ

@@ -1,4 +1,5 @@
 // Drawing the items of a sheet on a canvas, one after the other.
+use clips::state_after;
 use color::Color;
 use fill::fill_rrect;
 use gfx::Canvas;
@@ -17,24 +18,7 @@ ghost use mathlib.Core.Path.{_≡_};
 ghost use lib.ListN.{length};
 ghost use Rattle.items.specs.Items.{itemOf};
 ghost use Rattle.sheet.specs.Check.{countOf, bytesAt};
-ghost use Rattle.render.specs.Stages.{stateAfter, chainPx, polyPx, polyScratch, shapePx, shapeScratch, Left, stage, stageAfter, stagesFrom};
-
-// The state after an item: a push or a pop alters it.
-fn state_after(item: Item, canvas: Canvas) -> Canvas
-    ensures { λ r. ⌜ r ≡ stateAfter item canvas ⌝ }
-{
-    match item {
-        Item::Push(rect) => canvas.push_clip(rect).canvas,
-        Item::Pop => canvas.pop_clip().canvas,
-        Item::Fill { .. } => canvas,
-        Item::Stroke { .. } => canvas,
-        Item::Line { .. } => canvas,
-        Item::Poly { .. } => canvas,
-        Item::Shadow { .. } => canvas,
-        Item::Chain { .. } => canvas,
-        Item::Unknown => canvas,
-    }
-}
+ghost use Rattle.render.specs.Stages.{chainPx, polyPx, polyScratch, shapePx, shapeScratch, Left, stage, stageAfter, stagesFrom};
 
 // Draws a polygon of so many points, whose coordinates stand in its bytes.
 fn draw_poly(
@@ -120,7 +104,7 @@ fn draw_item(b: &[u8], canvas: Canvas, px: &mut [u32], scratch: &mut [f32]) -> C
 {
     let item = item_of(b);
     draw_shape(b, item, canvas, px, scratch);
-    state_after(item, canvas)
+    state_after(b, canvas)
 }
 
 // Draws the item k of a sheet, and returns the state after it.

@@ -16,7 +16,7 @@ use Rattle.redraw.specs.Calls.{Painted}
 use Rattle.redraw.proofs.Lists.{Paints, paint-accepted, paint-numbered, zero-accepted, shown-first}
 use Rattle.items.specs.Format.{kind, reading, sheetOf, format, zeroWord}
 use Rattle.items.proofs.Lawful.{lawful}
-use Rattle.paint.proofs.Painting.{clean}
+use Rattle.items.proofs.Readings.{clean}
 use Rattle.text.specs.Picture.{pictureOf}
 use Rattle.text.specs.Text.{refusalText, outcomeText}
 

@@ -20,8 +20,8 @@ Inv-loop old new n canvas area₀ count₀ k₀ area count k =
 abbrev μ-loop : tie.MeasureT-loop
 μ-loop old new n canvas area₀ count₀ k₀ area count k = n - k
 
-frame-requires : tie.Need-frame-requires Inv-loop μ-loop
-frame-requires c κs = tt
+canvas-of-requires : tie.Need-canvas-of-requires Inv-loop μ-loop
+canvas-of-requires c κs = tt
 
 new-requires : tie.Need-new-requires Inv-loop μ-loop
 new-requires c κs = tt
@@ -30,7 +30,7 @@ loop-holds : tie.Need-loop-holds Inv-loop μ-loop
 unfolding noBox
 loop-holds c =
     let a = c .before .before .before .before .args in
-    (omega arith, omega arith, rw (sub-zero (a .n), c .new .ensures) (sym (told-first (c .before .frame .result) (changeFrom (a .old .now) (a .new .now) (a .n) 0))))
+    (omega arith, omega arith, rw (sub-zero (a .n), c .new .ensures) (sym (told-first (c .before .canvas-of .result) (changeFrom (a .old .now) (a .new .now) (a .n) 0))))
 
 cast-same-at : tie.Need-cast-same-at Inv-loop μ-loop
 cast-same-at c = record { fits = omega arith }
@@ -72,10 +72,10 @@ returns c =
     let k = l .loop .k in
     let m = a .n - (k + 1) in
     let e = other-turn old new (a .n - k) m k (omega arith) _ (c .before .before .before .before .same-at .ensures) (c .before .before .before .if1 .left) in
-    let o = told-other (l .before .before .frame .result) (l .loop .count) (l .loop .area) (itemIn (bytesAt old k)) (itemIn (bytesAt new k)) (changeFrom old new m (k + 1))
+    let o = told-other (l .before .before .canvas-of .result) (l .loop .count) (l .loop .area) (itemIn (bytesAt old k)) (itemIn (bytesAt new k)) (changeFrom old new m (k + 1))
     _ (c .before .before .both-shapes .ensures) (not-true _ (c .before .if2 .taken)) in
     let i = rw e at (l .loop .inv .2) in
-    c .refusal .ensures ∙ sym o ∙ i ∙ rw (l .before .before .frame .ensures)
+    c .refusal .ensures ∙ sym o ∙ i ∙ rw (l .before .before .canvas-of .ensures)
 
 cast-area-with : tie.Need-cast-area-with Inv-loop μ-loop
 cast-area-with c = record { fits = omega arith }
@@ -102,7 +102,7 @@ loop-again-2 c =
     let k = l .loop .k in
     let m = a .n - (k + 1) in
     let e = other-turn old new (a .n - k) m k (omega arith) _ (c .before .before .before .before .same-at .ensures) (c .before .before .before .if1 .left) in
-    let p = told-pair (l .before .before .frame .result) (l .loop .count) (l .loop .area) (bytesAt old k) (bytesAt new k) (changeFrom old new m (k + 1))
+    let p = told-pair (l .before .before .canvas-of .result) (l .loop .count) (l .loop .area) (bytesAt old k) (bytesAt new k) (changeFrom old new m (k + 1))
     _ (c .before .before .both-shapes .ensures) (not-false _ (c .before .if2 .left)) in
     (omega arith, omega arith, rw (c .area-with .ensures) (sym p ∙ rw (← e) (l .loop .inv .2)))
 
@@ -117,7 +117,7 @@ returns-2 c =
     let k = l .loop .k in
     let e = no-turn (a .old .now) (a .new .now) (a .n - k) k (omega arith) in
     let i = rw (e, add-zero) at (l .loop .inv .2) in
-    c .settled .ensures ∙ i ∙ rw (l .before .before .frame .ensures)
+    c .settled .ensures ∙ i ∙ rw (l .before .before .canvas-of .ensures)
 
 pub changed-in-spec : {M : Type 1} → statement M
 changed-in-spec =
@@ -125,7 +125,7 @@ changed-in-spec =
     (tie.spec
     Inv-loop
     μ-loop
-    frame-requires
+    canvas-of-requires
     new-requires
     loop-holds
     cast-same-at

@@ -1,10 +1,11 @@
 -- `paint::paint` meets its contract, each return by its law. Assumes nothing.
-use mathlib.Core.Path.{_≡_, refl, sym, ap, _∙_}
+use mathlib.Core.Path.{refl, sym, ap, _∙_}
 use Rattle.sheet.specs.declared.check.Verdict.{Verdict}
 use Rattle.items.specs.Format.{format, zeroWord}
 use Rattle.redraw.specs.Sheet.{answer}
 use Rattle.redraw.proofs.Rules.{paint-refused, does-refused, does-drawn}
-use Rattle.paint.proofs.Painting.{clean, reads-refused, lent-accepted, paint-refuses, paint-accepts, painted-px, painted-scratch}
+use Rattle.items.proofs.Readings.{clean, reads-refused}
+use Rattle.paint.proofs.Painting.{lent-accepted, paint-refuses, paint-accepts, painted-px, painted-scratch}
 use borrow.Author.Needs.{needs}
 use Rattle.paint.proofs.paint.Statement.{statement}
 use Rattle.paint.proofs.paint.Tie as tie

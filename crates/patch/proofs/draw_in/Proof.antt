@@ -6,7 +6,7 @@ use Rattle.draw.specs.Areas.{clipTo}
 use Rattle.sheet.specs.Check.{widthOf, heightOf}
 use Rattle.items.specs.Items.{groundOf}
 use Rattle.redraw.specs.Drawing.{groundIn}
-use Rattle.paint.specs.Paint.{stateIn}
+use Rattle.clips.specs.States.{stateIn}
 use Rattle.patch.specs.Patch.{drawnBox}
 use Rattle.patch.proofs.Patching.{grounds}
 use borrow.Author.Needs.{needs}

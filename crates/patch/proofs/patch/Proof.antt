@@ -3,7 +3,7 @@ use mathlib.Core.Path.{sym, ap, _∙_}
 use Rattle.sheet.specs.declared.check.Verdict.{Verdict}
 use Rattle.items.specs.Format.{format, zeroWord}
 use Rattle.redraw.proofs.Rules.{patch-old-refused, patch-new-refused, does-refused}
-use Rattle.paint.proofs.Painting.{clean, reads-refused, reads-accepted}
+use Rattle.items.proofs.Readings.{clean, reads-refused, reads-accepted}
 use borrow.Author.Needs.{needs}
 use Rattle.patch.proofs.patch.Statement.{statement}
 use Rattle.patch.proofs.patch.Tie as tie

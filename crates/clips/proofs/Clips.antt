@@ -1,19 +1,16 @@
 -- The clips of a state as redraw has them: the clip, and the saved clips as a list, the last saved first. Assumes nothing.
-use Prim.Native.Nat.{ℕ, zero, suc, _+_, _-_, _<_, _≤_}
-use mathlib.Core.Path.{_≡_, refl, sym, ap, _∙_}
-use mathlib.Core.Bool.{Bool, true, false, cond, _&&_}
+use Prim.Native.Nat.{ℕ, zero, suc, _-_, _<_, _≤_}
+use mathlib.Core.Path.{_≡_, refl, ap}
 use mathlib.Core.List.{List, [], _∷_}
 use native.Mathlib.Numerals.{add-one}
 use native.Mathlib.Omega.{arith}
-use borrow.Author.Tests.{eq-eqb, ne-eqb, ltb-true}
-use lib.Dec.{eqb, ltb}
+use borrow.Author.Tests.{ne-eqb}
 use lib.ListN.{length, getD, set}
 use lib.Seq.{getD-set-same, getD-set-other}
 use Rattle.geom.specs.declared.IRect.{IRect}
 use Rattle.geom.specs.Box.{noBox}
-use Rattle.gfx.specs.State.{validOf, pushed, unsaved, popped}
+use Rattle.gfx.specs.State.{pushed, unsaved, popped}
 use Rattle.gfx.specs.declared.Canvas.{Canvas}
-use Rattle.gfx.proofs.Kept.{Sound}
 use Rattle.redraw.specs.Drawing as drawing
 use Rattle.redraw.specs.Drawing.{Clips}
 
@@ -23,6 +20,11 @@ savedOf saved (suc d) = getD saved d noBox ∷ savedOf saved d
 
 abbrev pub clipsOf : Canvas → Clips
 clipsOf c = record { clip = c .clip; saved = savedOf (c .saved) (c .depth) }
+
+pub saved-length : (saved : List IRect) (d : ℕ) → length (savedOf saved d) ≡ d
+unfolding savedOf
+saved-length saved zero = refl
+saved-length saved (suc d) = ap suc (saved-length saved d)
 
 -- a place above does not matter
 saved-below : (saved : List IRect) (d n : ℕ) (b : IRect) → n ≤ d → savedOf (set saved d b) n ≡ savedOf saved n

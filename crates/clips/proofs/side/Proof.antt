@@ -1,11 +1,11 @@
--- `paint::side` meets its contract. Assumes nothing.
+-- `clips::side` meets its contract. Assumes nothing.
 use mathlib.Core.Path.{ap, _∙_}
 use native.Mathlib.Omega.{arith}
 use lib.IntN.{pos}
 use mir.Syntax.{w32}
 use mir.Facts.{toZ-pos}
-use Rattle.paint.proofs.side.Statement.{statement}
-use Rattle.paint.proofs.side.Tie as tie
+use Rattle.clips.proofs.side.Statement.{statement}
+use Rattle.clips.proofs.side.Tie as tie
 
 u16-at-requires : tie.Need-u16-at-requires
 u16-at-requires c κs = tt

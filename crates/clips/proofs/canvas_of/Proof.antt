@@ -1,10 +1,10 @@
--- `paint::canvas_of` meets its contract. Assumes nothing.
+-- `clips::canvas_of` meets its contract. Assumes nothing.
 use mathlib.Core.Path.{_∙_}
 use native.Mathlib.Omega.{arith}
 use Rattle.geom.proofs.Signed.{kept}
 use Rattle.redraw.specs.Sheet.{canvas}
-use Rattle.paint.proofs.canvas_of.Statement.{statement}
-use Rattle.paint.proofs.canvas_of.Tie as tie
+use Rattle.clips.proofs.canvas_of.Statement.{statement}
+use Rattle.clips.proofs.canvas_of.Tie as tie
 
 side-requires : tie.Need-side-requires
 side-requires c κs = omega arith

@@ -1,9 +1,9 @@
--- `paint::state_in` meets its contract. Assumes nothing.
+-- `clips::state_in` meets its contract. Assumes nothing.
 use Rattle.geom.proofs.Signed.{kept}
 use Rattle.geom.specs.Box.{noBox}
-use Rattle.paint.specs.Paint.{stateIn}
-use Rattle.paint.proofs.state_in.Statement.{statement}
-use Rattle.paint.proofs.state_in.Tie as tie
+use Rattle.clips.specs.States.{stateIn}
+use Rattle.clips.proofs.state_in.Statement.{statement}
+use Rattle.clips.proofs.state_in.Tie as tie
 
 returns : tie.Need-returns
 unfolding stateIn noBox

@@ -1,9 +1,9 @@
--- `paint::first_state` meets its contract. Assumes nothing.
+-- `clips::first_state` meets its contract. Assumes nothing.
 use mathlib.Core.Path.{_∙_}
 use native.Mathlib.Omega.{arith}
 use Rattle.geom.proofs.Signed.{kept}
-use Rattle.paint.proofs.first_state.Statement.{statement}
-use Rattle.paint.proofs.first_state.Tie as tie
+use Rattle.clips.proofs.first_state.Statement.{statement}
+use Rattle.clips.proofs.first_state.Tie as tie
 
 side-requires : tie.Need-side-requires
 side-requires c κs = omega arith

@@ -1,0 +1,2 @@
+-- The definitions that the contracts of clips cite. Assumes nothing.
+pub mod States
