@@ -4,15 +4,28 @@ pub mod canvas;
 pub mod shapes;
 
 use encode::Written;
+use measure::measure;
 use orders::clip_order;
 use paint::paint;
 use patch::patch;
 use redraw::Answer;
+use redraw::Room;
+ghost use mathlib.Core.Path.{_≡_};
 ghost use lib.ListN.{length};
 ghost use Rattle.encode.specs.Encode.{Wrote};
 ghost use Rattle.items.specs.Format.{format, zeroWord};
 ghost use Rattle.orders.specs.Orders.{orderNumber, orderSheet};
 ghost use Rattle.redraw.specs.Calls.{Painted, Patched};
+ghost use Rattle.redraw.specs.Measure.{measuring};
+
+// What painting a sheet takes: the scratch words that it needs, the most clips saved at once, the pixels of its shapes. Neither pixels nor scratch
+// are lent.
+#[no_mangle]
+pub extern "C" fn maldjupp_measure(sheet: &[u8]) -> Room
+    ensures { λ r. ⌜ r ≡ measuring format (now (sheet .entry)) ⌝ }
+{
+    measure(sheet)
+}
 
 // Paints a sheet: every pixel the ground, then its items in their order.
 #[no_mangle]

@@ -3,3 +3,5 @@ pub mod Drawn
 pub mod Items
 pub mod Lists
 pub mod Rules
+pub mod Sums
+pub mod Measured

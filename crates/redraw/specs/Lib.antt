@@ -2,3 +2,5 @@
 pub mod Drawing
 pub mod Sheet
 pub mod Calls
+pub mod Sums
+pub mod Measure

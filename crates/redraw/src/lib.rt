@@ -9,3 +9,14 @@ pub struct Answer {
     pub item: u32,
     pub area: IRect,
 }
+
+// What a sheet takes: the scratch words that it needs, the most clips that it has saved at once, and the pixels in reach and clip together,
+// summed over its shapes; refused, number and item, and three zeros.
+#[repr(C)]
+pub struct Room {
+    pub number: u32,
+    pub item: u32,
+    pub words: usize,
+    pub saved: usize,
+    pub pixels: u64,
+}

@@ -1,0 +1,3 @@
+-- The definitions that the contracts of measure cite. Assumes nothing.
+pub mod Walked
+pub mod Examples
