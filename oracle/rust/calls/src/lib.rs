@@ -1,13 +1,15 @@
-//! The sheet calls and the call of the clip orders of the crate `maldjupp`, on lent memory. A slice passes as a pointer and a length.
+//! The sheet calls, measuring and the call of the clip orders of the crate `maldjupp`, on lent memory. A slice passes as a pointer and a
+//! length.
 pub mod lent;
+pub mod rooms;
 
 use answers::random::Random;
 use lent::{bytes, Lent};
-use sheets::{orders::Written, Answer, Expected};
+use sheets::{orders::Written, Answer, Expected, Room};
 
 /// The functions as they are exported.
 pub mod raw {
-    use sheets::{orders::Written, Answer};
+    use sheets::{orders::Written, Answer, Room};
     extern "C" {
         pub fn maldjupp_paint(sheet: *const u8, n: usize, px: *mut u32, m: usize, scratch: *mut f32, k: usize) -> Answer;
         pub fn maldjupp_patch(
@@ -20,6 +22,7 @@ pub mod raw {
             scratch: *mut f32,
             k: usize,
         ) -> Answer;
+        pub fn maldjupp_measure(sheet: *const u8, n: usize) -> Room;
         pub fn maldjupp_clip_order(number: usize, buf: *mut u8, room: usize) -> Written;
     }
 }
@@ -76,6 +79,14 @@ impl Memory {
         let (scratch_left, d) = self.scratch.back();
         let inside = a && b && c && d && old_left == given && new_left == new;
         Left { answer, px: words(px_left), scratch: words(scratch_left), inside }
+    }
+
+    /// Measures a sheet, which begins at such a page or ends at one: what is returned, and whether nothing was written into it or beside it.
+    pub fn measure(&mut self, sheet: &[u8], at_start: bool) -> (Room, bool) {
+        let lent = self.new.lend(sheet, at_start);
+        let room = unsafe { raw::maldjupp_measure(lent, sheet.len()) };
+        let (left, inside) = self.new.back();
+        (room, inside && left == sheet)
     }
 
     /// Asks for the clip order of a number: what is returned, the buffer after the call, and whether nothing beside it was written.

@@ -15,7 +15,7 @@ const ONCE: u32 = 0x0080_0000;
 const TWICE: u32 = 0x00c0_0000;
 
 /// Points at the centres of 8 × 8 pixels, row after row, each row the other way than the one before; the 65th lies beneath them.
-fn rows(m: usize) -> Vec<f32> {
+pub fn rows(m: usize) -> Vec<f32> {
     let column = |i: usize| if i / 8 % 2 == 0 { i % 8 } else { 7 - i % 8 };
     (0..m).flat_map(|i| [column(i) as f32 + 0.5, (i / 8) as f32 + 0.5]).collect()
 }

@@ -1,4 +1,5 @@
-//! What painting and patching answer, and what they leave of scratch and pixels, by document 01 and request 2026-01.
+//! What painting, patching and measuring answer, and what the first two leave of scratch and pixels, by document 01 and requests 2026-01
+//! and 2026-03.
 use crate::{
     item::{around, EMPTY},
     Fault, Sheet, MOST_CHANGES,
@@ -76,6 +77,28 @@ pub fn paint(bytes: &[u8], px: usize, scratch: usize) -> Expected {
         Ok(sheet) => {
             let canvas = IRect::new(0, 0, sheet.w as i32, sheet.h as i32);
             lent(sheet, canvas, px, scratch)
+        }
+    }
+}
+
+/// The room that a sheet takes, as the library returns it: scratch words, clips saved at once, and pixels in reach and clip together.
+#[repr(C)]
+#[derive(Clone, Copy, Debug, PartialEq)]
+pub struct Room {
+    pub number: u32,
+    pub item: u32,
+    pub words: usize,
+    pub saved: usize,
+    pub pixels: u64,
+}
+
+/// Measuring a sheet.
+pub fn measure(bytes: &[u8]) -> Room {
+    match Sheet::read(bytes) {
+        Err(Fault { number, item }) => Room { number, item, words: 0, saved: 0, pixels: 0 },
+        Ok(sheet) => {
+            let saved = sheet.saved().into_iter().max().unwrap_or(0);
+            Room { number: 0, item: 0, words: sheet.need(), saved, pixels: sheet.met() }
         }
     }
 }

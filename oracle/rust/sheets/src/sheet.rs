@@ -1,6 +1,6 @@
-//! A sheet's check in document 01's order, and its painting by the unchanged Rust.
+//! A sheet's check in document 01's order, its painting by the unchanged Rust, and what change request 2026-03 counts of it.
 use crate::{half, item, Item, LONGEST, MOST_ITEMS, MOST_SAVED, MOST_SIDE, SHORTEST};
-use kash::{color::Color, gfx::Canvas};
+use kash::{color::Color, geom::IRect, gfx::Canvas};
 
 /// A sheet that was read: sides, ground, and each item with its bytes.
 #[derive(Clone, Debug)]
@@ -34,6 +34,13 @@ fn places(bytes: &[u8], n: usize) -> Option<Vec<(usize, usize)>> {
         next = offset + length;
     }
     if next == bytes.len() { Some(places) } else { None }
+}
+
+/// How many pixels of a canvas of w columns and h rows lie in both boxes, counted one by one.
+fn in_both(w: usize, h: usize, a: &IRect, b: &IRect) -> u64 {
+    let column = |x: i32| (a.x0 <= x) & (x < a.x1) & (b.x0 <= x) & (x < b.x1);
+    let row = |y: &i32| a.y0 <= *y && *y < a.y1 && b.y0 <= *y && *y < b.y1;
+    (0..h as i32).filter(row).map(|_| (0..w as i32).map(|x| column(x) as u32).sum::<u32>() as u64).sum()
 }
 
 impl Sheet {
@@ -74,6 +81,34 @@ impl Sheet {
     /// The scratch words that painting it, or patching to it, needs.
     pub fn need(&self) -> usize {
         self.items.iter().map(|(item, _)| item.need()).max().unwrap_or(0)
+    }
+
+    /// How many clips are saved before the first item, and after each.
+    pub fn saved(&self) -> Vec<usize> {
+        let mut saved = 0usize;
+        let after = self.items.iter().map(|(item, _)| {
+            match item {
+                Item::Push(_) => saved += 1,
+                Item::Pop => saved = saved.saturating_sub(1),
+                _ => (),
+            }
+            saved
+        });
+        [0].into_iter().chain(after).collect()
+    }
+
+    /// The pixels of the canvas in a shape's reach and in the clip at it, summed over the shapes. The clip is the Rust's own.
+    pub fn met(&self) -> u64 {
+        let mut canvas = Canvas::new(self.w as i32, self.h as i32);
+        let mut met = 0;
+        for (item, _) in &self.items {
+            if item.is_shape() {
+                met += in_both(self.w, self.h, &item.reach(), &canvas.clip());
+            } else {
+                item.draw(&mut canvas);
+            }
+        }
+        met
     }
 
     /// The pixels of a fresh painting.

@@ -1,9 +1,9 @@
-//! Painting random sheets, sound and damaged ones, beside the unchanged Rust: `sheets CASES`, or `sheets case N` for one case of it.
-//! Exit status 1 where anything differs, where a number of document 01 comes too seldom, or a sort of chain never.
+//! Painting and measuring random sheets, sound and damaged ones, beside the unchanged Rust: `sheets CASES`, or `sheets case N` for one case
+//! of it. Exit status 1 where anything differs, where a number of document 01 or a sort of room comes too seldom, or a sort of chain never.
 use answers::random::{Random, SEED};
-use calls::{dirty, enough, fault, Memory, Numbers, TOLD, USUAL};
-use sheets::{chains::unseen, damage::damaged, fixed, make, paint, Chains, Sheet};
-use std::{env, process::exit, time::Instant};
+use calls::{dirty, enough, fault, rooms::Rooms, Memory, Numbers, TOLD, USUAL};
+use sheets::{chains::unseen, damage::damaged, fixed, fixed_rooms, make, measure, paint, Chains, Room, Sheet};
+use std::{env, mem::take, process::exit, time::Instant};
 
 /// What a painting is given.
 struct Given {
@@ -38,21 +38,35 @@ fn given(random: &mut Random) -> Given {
     Given { sheet: bytes, px, scratch }
 }
 
+/// Words as px may come.
+fn any_words(n: usize, random: &mut Random) -> Vec<u32> {
+    (0..n).map(|_| random.word()).collect()
+}
+
 #[derive(Default)]
 struct Run {
     memory: Memory,
     numbers: Numbers,
     chains: Chains,
+    rooms: Rooms,
     differ: u64,
     pixels: u64,
 }
 
 impl Run {
-    fn case(&mut self, name: String, given: &Given, random: &mut Random) {
-        let px: Vec<u32> = (0..given.px).map(|_| random.word()).collect();
+    fn differs(&mut self, text: String, sheet: &[u8]) {
+        self.differ += 1;
+        if self.differ <= 3 {
+            println!("{text}\n  sheet {:02x?}", &sheet[..sheet.len().min(600)]);
+        }
+    }
+
+    fn case(&mut self, name: &str, given: &Given, random: &mut Random) {
+        let px = any_words(given.px, random);
         let scratch = dirty(given.scratch, random);
         let expected = paint(&given.sheet, given.px, given.scratch);
-        let after = expected.pixels(&px, expected.fresh().as_deref());
+        let fresh = expected.fresh();
+        let after = expected.pixels(&px, fresh.as_deref());
         let left = self.memory.call(None, &given.sheet, &px, &scratch, random);
         self.numbers.add(expected.answer.number);
         match &expected.sheet {
@@ -61,12 +75,72 @@ impl Run {
         }
         self.pixels += after.len() as u64;
         if let Some(what) = fault(&left, &expected, &after, &scratch) {
-            self.differ += 1;
-            if self.differ <= 3 {
-                println!("{name} differs in {what}: {:?} instead of {:?}", left.answer, expected.answer);
-                println!("  px {} scratch {} sheet {:02x?}", given.px, given.scratch, &given.sheet[..given.sheet.len().min(600)]);
-            }
+            let lent = format!("px {} scratch {}", given.px, given.scratch);
+            self.differs(format!("{name} differs in {what}: {:?} instead of {:?}, {lent}", left.answer, expected.answer), &given.sheet);
         }
+        self.measured(name, &given.sheet, measure(&given.sheet), fresh, random);
+    }
+
+    /// Measures a sheet, and paints an accepted one with just the scratch words that the library tells, and with one fewer; `fresh` are the
+    /// pixels of a fresh painting where they are known.
+    fn measured(&mut self, name: &str, sheet: &[u8], room: Room, fresh: Option<Vec<u32>>, random: &mut Random) {
+        let (told, inside) = self.memory.measure(sheet, random.below(4) == 0);
+        let read = Sheet::read(sheet);
+        self.rooms.measured(read.as_ref().ok(), &room);
+        if told != room || !inside {
+            let beside = if inside { "" } else { ", and in memory that was lent for reading" };
+            return self.differs(format!("{name} differs in its room{beside}: {told:?} instead of {room:?}"), sheet);
+        }
+        let Ok(read) = read else { return };
+        let fresh = fresh.unwrap_or_else(|| read.fresh());
+        let scratch = dirty(told.words, random);
+        self.rooms.enough += self.lent(name, sheet, &fresh, &scratch, 0, random) as u64;
+        if let Some((_, fewer)) = scratch.split_last() {
+            self.rooms.fewer += self.lent(name, sheet, &fresh, fewer, 9, random) as u64;
+        }
+    }
+
+    /// Paints on px and scratch that end at a page that cannot be touched, which must return a number. Answers whether all is as it must be.
+    fn lent(&mut self, name: &str, sheet: &[u8], fresh: &[u32], scratch: &[u32], number: u32, random: &mut Random) -> bool {
+        let px = any_words(fresh.len(), random);
+        let expected = paint(sheet, px.len(), scratch.len());
+        let after = expected.pixels(&px, Some(fresh));
+        let left = self.memory.call_at(None, sheet, &px, scratch, [false; 4]);
+        let other = (left.answer.number, left.answer.item) != (number, 0);
+        let wrong = fault(&left, &expected, &after, scratch).or(other.then_some("number"));
+        if let Some(what) = wrong {
+            let lent = format!("with {} scratch words, to return {number}", scratch.len());
+            self.differs(format!("{name} {lent}, differs in {what}: {:?} instead of {:?}", left.answer, expected.answer), sheet);
+        }
+        wrong.is_none()
+    }
+
+    /// Document 01's examples, and the sheets whose room is known. Answers how many examples there are.
+    fn fixed(&mut self) -> u64 {
+        let (examples, rooms) = (examples(), fixed_rooms::rooms());
+        fixed_rooms::check(&rooms);
+        for (i, given) in examples.iter().enumerate() {
+            self.case(&format!("example {i}"), given, &mut Random(SEED + 8));
+        }
+        for m in rooms {
+            self.measured(m.name, &m.sheet, m.room, None, &mut Random(SEED + 13));
+        }
+        examples.len() as u64
+    }
+
+    /// Prints what a run of so many cases has seen; answers whether something came too seldom.
+    fn lacks(&self, cases: u64) -> bool {
+        let (least, told) = (cases / 300, cases >= TOLD);
+        let seldom = self.numbers.report(&[1, 2, 3, 4, 5, 6, 7, 8, 9, 13], least, told);
+        let never = unseen(&self.chains.paintings(), told);
+        if !seldom.is_empty() {
+            println!("less than {least} times: numbers {seldom:?}");
+        }
+        let chains = cases >= USUAL && !never.is_empty();
+        if chains {
+            println!("chains never seen: {never:?}");
+        }
+        self.rooms.lack(cases, told) || !seldom.is_empty() || chains
     }
 }
 
@@ -77,30 +151,20 @@ fn main() {
     fixed::check();
     let mut run = Run::default();
     let began = Instant::now();
-    let examples = examples();
-    for (i, given) in examples.iter().enumerate() {
-        run.case(format!("example {i}"), given, &mut Random(SEED + 8));
-    }
+    let examples = run.fixed();
+    let fixed = take(&mut run.rooms);
     for n in from..to {
         let mut random = Random(SEED ^ (n + 1) << 20);
         let given = given(&mut random);
-        run.case(format!("case {n}"), &given, &mut random);
+        run.case(&format!("case {n}"), &given, &mut random);
         if (n + 1) % 50_000 == 0 {
             println!("{:>9} sheets, {} differences, {:.1} s", n + 1, run.differ, began.elapsed().as_secs_f64());
         }
     }
-    let (cases, least, told) = (to - from + examples.len() as u64, (to - from) / 300, to - from >= TOLD);
-    let seldom = run.numbers.report(&[1, 2, 3, 4, 5, 6, 7, 8, 9, 13], least, told);
-    let never = unseen(&run.chains.paintings(), told);
-    println!("sheets: {cases} cases, {} pixels, {}, {} differences", run.pixels, run.chains.share(), run.differ);
-    if !seldom.is_empty() {
-        println!("less than {least} times: numbers {seldom:?}");
-    }
-    let lacks = to - from >= USUAL && !never.is_empty();
-    if lacks {
-        println!("chains never seen: {never:?}");
-    }
-    if run.differ > 0 || !seldom.is_empty() || lacks {
+    let lacks = run.lacks(to - from);
+    println!("rooms: {}", run.rooms.beside(&fixed));
+    println!("sheets: {} cases, {} pixels, {}, {} differences", to - from + examples, run.pixels, run.chains.share(), run.differ);
+    if run.differ > 0 || lacks {
         exit(1);
     }
 }

@@ -2,10 +2,10 @@
 //! shape, and a folder of four sheets, each with one shape other than in the one before. The smallest time of 200 rounds, the two in turn.
 //! The Rust draws items that were read before, on a canvas that is there. Then what a patch costs by the area of its box and by the number
 //! of items, what one patch of three shapes costs beside three patches of one, and what checking a sheet of about 60,000 bytes costs
-//! beside painting it; and what a weight trace costs as one chain beside the same lines as items.
-use calls::raw::{maldjupp_paint, maldjupp_patch};
+//! beside painting it, and measuring it beside checking it; and what a weight trace costs as one chain beside the same lines as items.
+use calls::raw::{maldjupp_measure, maldjupp_paint, maldjupp_patch};
 use kash::{color::Color, gfx::Canvas};
-use sheets::{fixed, fixed_chains::chain, make, paint, patch, Answer, Made, Sheet};
+use sheets::{fixed, fixed_chains::chain, make, measure, paint, patch, Answer, Made, Sheet};
 use std::{env, fs, hint::black_box, time::Instant};
 
 const ROUNDS: usize = 200;
@@ -58,19 +58,30 @@ fn weighing(n: usize) -> [Vec<u8>; 4] {
     })
 }
 
-/// The smallest times of painting a sheet, of having it refused by 8 after its checks, and of patching it to another.
-fn costs(sheet: &[u8], other: &[u8]) -> [f64; 3] {
+/// The smallest times of painting a sheet and of patching it to another.
+fn costs(sheet: &[u8], other: &[u8]) -> [f64; 2] {
     let mut px = vec![0u32; 640 * 400];
-    let mut least = [f64::MAX; 3];
+    let mut least = [f64::MAX; 2];
     for _ in 0..ROUNDS {
         let (p, m) = (px.as_mut_ptr(), px.len());
         let none = std::ptr::NonNull::<f32>::dangling().as_ptr();
         micros(&mut least[0], || assert_eq!(black_box(unsafe { maldjupp_paint(sheet.as_ptr(), sheet.len(), p, m, none, 0) }).number, 0));
-        micros(&mut least[1], || assert_eq!(black_box(unsafe { maldjupp_paint(sheet.as_ptr(), sheet.len(), p, m - 1, none, 0) }).number, 8));
-        micros(&mut least[2], || {
+        micros(&mut least[1], || {
             let answer = unsafe { maldjupp_patch(sheet.as_ptr(), sheet.len(), other.as_ptr(), other.len(), p, m, none, 0) };
             assert_eq!(black_box(answer).number, 0);
         });
+    }
+    least
+}
+
+/// The smallest times of having a sheet refused by 8 after its checks, no pixels being lent, and of measuring it; the two in turn.
+fn checks(sheet: &[u8]) -> [f64; 2] {
+    let room = measure(sheet);
+    let (px, scratch) = (std::ptr::NonNull::<u32>::dangling().as_ptr(), std::ptr::NonNull::<f32>::dangling().as_ptr());
+    let mut least = [f64::MAX; 2];
+    for _ in 0..ROUNDS {
+        micros(&mut least[0], || assert_eq!(black_box(unsafe { maldjupp_paint(sheet.as_ptr(), sheet.len(), px, 0, scratch, 0) }).number, 8));
+        micros(&mut least[1], || assert_eq!(black_box(unsafe { maldjupp_measure(sheet.as_ptr(), sheet.len()) }), room));
     }
     least
 }
@@ -115,19 +126,24 @@ fn sets_by_items(ticket: &[Vec<u8>; 4]) {
 fn sizes() {
     println!("\n| patch, 60 items, box | painted µs | patched µs | ratio |\n|---|---|---|---|");
     for side in [8, 32, 64, 128, 256] {
-        let [painted, _, patched] = costs(&fills(60, side as f32), &fills(60, side as f32 - 1.0));
+        let [painted, patched] = costs(&fills(60, side as f32), &fills(60, side as f32 - 1.0));
         println!("| {side} × {side} | {painted:.1} | {patched:.1} | {:.3} |", patched / painted);
     }
     println!("\n| patch, box 32 × 32, items | painted µs | patched µs | ratio |\n|---|---|---|---|");
     for n in [10, 60, 200, 500, 1000] {
-        let [painted, _, patched] = costs(&fills(n, 32.0), &fills(n, 31.0));
+        let [painted, patched] = costs(&fills(n, 32.0), &fills(n, 31.0));
         println!("| {n} | {painted:.1} | {patched:.1} | {:.3} |", patched / painted);
     }
     let sheet = fills(1000, 32.0);
-    println!("\n| patch between equal sheets, items | patched µs |\n|---|---|\n| 1000 | {:.1} |", costs(&sheet, &sheet)[2]);
+    println!("\n| patch between equal sheets, items | patched µs |\n|---|---|\n| 1000 | {:.1} |", costs(&sheet, &sheet)[1]);
+}
+
+fn largest() {
     let sheet = fills(1024, 32.0);
-    let [painted, checked, _] = costs(&sheet, &sheet);
-    println!("\n| sheet of {} bytes | µs |\n|---|---|\n| painted | {painted:.1} |\n| read and checked | {checked:.1}, {:.1} % |", sheet.len(), 100.0 * checked / painted);
+    let ([painted, _], [checked, measured]) = (costs(&sheet, &sheet), checks(&sheet));
+    println!("\n| sheet of {} bytes | µs |\n|---|---|\n| painted | {painted:.1} |", sheet.len());
+    println!("| read and checked | {checked:.1}, {:.1} % |", 100.0 * checked / painted);
+    println!("| measured | {measured:.1}, measuring / checking {:.2}, limit 1.5 |", measured / checked);
 }
 
 /// A settling weight: 64 points over 372 × 160 pixels.
@@ -218,7 +234,10 @@ fn main() {
     println!("|---|---|---|---|");
     println!("| painted | {painted:.0} | {rust:.0} | {:.2} |", painted / rust);
     println!("| patched, box {w} × {h}; the Rust paints it anew | {patched:.0} | {rust:.0} | {:.2} |", patched / rust);
+    let [checked, measured] = checks(&bytes[0]);
+    println!("| measured; read and checked alone {checked:.1} | {measured:.1} |  |  |");
     sizes();
+    largest();
     sets_by_items(&settled);
     traces();
 }
