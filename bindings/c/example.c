@@ -1,12 +1,14 @@
-/* Paints a small ticket, patches it, draws it call by call, lets a trace grow, takes every small clip order, and checks every answer.
+/* Measures and paints a small ticket, patches it, draws it call by call, lets a trace grow, takes every small clip order, and checks every
+ * answer.
  *
  *   cc -std=c11 -Wall -Wextra -Werror -I bindings/c bindings/c/example.c -L target/staticlib -lmaldjupp -o example */
 #include "maldjupp.h"
 
 #include <stdio.h>
+#include <stdlib.h>
 #include <string.h>
 
-enum { W = 24, H = 16, MOST = 2048, ITEMS = 33, WORDS = 4096 };
+enum { W = 24, H = 16, MOST = 2048, ITEMS = 33, LARGEST = 12 + 1024 * (4 + 52) };
 
 /* A sheet of up to 33 items: their bytes, and where each ends. */
 struct sheet {
@@ -43,6 +45,12 @@ static void fill(struct sheet *s, float x, float y, float w, float h, uint32_t r
     word(s, 3), number(s, x), number(s, y), number(s, w), number(s, h), number(s, 0), solid(s, rgb), end(s);
 }
 
+static void push(struct sheet *s, float x, float y, float w, float h) {
+    word(s, 1), number(s, x), number(s, y), number(s, w), number(s, h), end(s);
+}
+
+static void pop(struct sheet *s) { word(s, 2), end(s); }
+
 static void triangle(struct sheet *s, float x, float y, float side, uint32_t rgb) {
     word(s, 6 | 3 << 16), solid(s, rgb);
     number(s, x), number(s, y), number(s, x + side), number(s, y), number(s, x), number(s, y + side), end(s);
@@ -59,6 +67,8 @@ static size_t bytes_of(const struct sheet *s, uint32_t w, uint32_t h, uint32_t g
     return o.length + s->length;
 }
 
+static const uint32_t copper = 0xB87333, brass = 0xC9AE5D;
+
 /* Paper with a patch of a colour, a bar of a length and a corner. */
 static size_t ticket(uint32_t grade, float bar, uint8_t out[MOST]) {
     struct sheet s = {.length = 0};
@@ -74,6 +84,17 @@ static size_t pile(size_t n, float width, uint8_t out[MOST]) {
     struct sheet s = {.length = 0};
     for (size_t i = 0; i < n; i++) fill(&s, 2, 2, width, 3, 0x207A4E);
     return bytes_of(&s, W, H, 0xDEDBD2, out);
+}
+
+/* The largest canvas with 1,024 fills of all of it. */
+static void largest(uint8_t out[LARGEST]) {
+    struct sheet s = {.length = 0};
+    word(&s, 2048 | 2048 << 16), word(&s, 0), word(&s, 1024), fill(&s, 0, 0, 2048, 2048, 0x207A4E);
+    memcpy(out, s.body, 12);
+    for (size_t i = 0, at = 12 + 4 * 1024; i < 1024; i++, at += 52) {
+        const uint8_t pair[] = {(uint8_t)at, (uint8_t)(at >> 8), 52, 0};
+        memcpy(out + 12 + 4 * i, pair, 4), memcpy(out + at, s.body + 12, 52);
+    }
 }
 
 /* Places of a trace, up and down across the paper. */
@@ -140,12 +161,38 @@ static int is(struct maldjupp_reply r, uint32_t number, uint32_t item, int32_t x
     return r.number == number && r.item == item && r.x0 == x0 && r.y0 == y0 && r.x1 == x1 && r.y1 == y1;
 }
 
+static int is_room(struct maldjupp_room r, uint32_t number, uint32_t item, size_t words, size_t saved, uint64_t pixels) {
+    return r.number == number && r.item == item && r.words == words && r.saved == saved && r.pixels == pixels;
+}
+
 static int is_box(struct maldjupp_boxed b, uint32_t number, int32_t x0, int32_t y0, int32_t x1, int32_t y1) {
     return b.number == number && b.area.x0 == x0 && b.area.y0 == y0 && b.area.x1 == x1 && b.area.y1 == y1;
 }
 
 /* Whether a call was refused by a number and gave the canvas back. */
 static int refused(struct maldjupp_done d, uint32_t number) { return d.number == number && memcmp(&d.canvas, &canvas, sizeof canvas) == 0; }
+
+/* What painting takes: each figure, scratch that is just enough, and refusals. */
+static void rooms(void) {
+    static uint8_t sheet[LARGEST];
+    static uint32_t px[W * H];
+    static float scratch[50];
+    struct sheet s = {.length = 0};
+    size_t n = bytes_of(&s, W, H, 0xDEDBD2, sheet);
+    check("measured without items: zeros", is_room(maldjupp_measure(sheet, n), MALDJUPP_ACCEPTED, 0, 0, 0, 0));
+    push(&s, 0, 0, W, 8), push(&s, 4, 0, 9, 9), pop(&s), fill(&s, 2, 2, 10, 10, 0x207A4E), triangle(&s, 17, 3, 4, 0x3A6292);
+    n = bytes_of(&s, W, H, 0xDEDBD2, sheet);
+    /* The triangle's box is 4 by 4, made 2 larger: (6 + 2) * 6 + 2 words. The clip leaves 10 by 6 of the fill. */
+    check("50 words, 2 clips at once, 60 and 36 pixels", is_room(maldjupp_measure(sheet, n), MALDJUPP_ACCEPTED, 0, 50, 2, 60 + 36));
+    check("so many words are enough", is(maldjupp_paint(sheet, n, px, W * H, scratch, 50), MALDJUPP_ACCEPTED, 0, 0, 0, W, H));
+    check("one fewer: refused 9", is(maldjupp_paint(sheet, n, px, W * H, scratch, 49), MALDJUPP_SCRATCH, 0, 0, 0, 0, 0));
+    check("11 bytes measured: refused 1, three zeros", is_room(maldjupp_measure(sheet, 11), MALDJUPP_SHEET_LENGTH, 0, 0, 0, 0));
+    for (int i = 0; i < 16; i++) push(&s, 0, 0, W, H);
+    n = bytes_of(&s, W, H, 0xDEDBD2, sheet);
+    check("17 clips measured: refused 7 at item 21, three zeros", is_room(maldjupp_measure(sheet, n), MALDJUPP_CLIPS, 21, 0, 0, 0));
+    largest(sheet);
+    check("1,024 fills of 2,048 by 2,048: 2^32 pixels", is_room(maldjupp_measure(sheet, LARGEST), MALDJUPP_ACCEPTED, 0, 0, 0, (uint64_t)1 << 32));
+}
 
 /* Clips, shapes and refusals on the canvas of the ticket. */
 static void calls(void) {
@@ -274,57 +321,72 @@ static void orders(void) {
               px[0] == 0 && px[5] == 0xFFFFFF && px[6] == 0xFFFFFF && px[9] == 0xFFFFFF && px[10] == 0xFFFFFF && px[2] == 0 && px[15] == 0);
 }
 
-int main(void) {
+/* The ticket, painted and patched, and as many shapes at once as a patch may alter. */
+static void patches(float *scratch, size_t words) {
     static uint8_t old[MOST], new[MOST];
     static uint32_t px[W * H], fresh[W * H], before[W * H];
-    static float scratch[WORDS];
-    const uint32_t copper = 0xB87333, brass = 0xC9AE5D;
     size_t n = ticket(copper, 9, old), m = ticket(copper, 12, new);
-
-    check("painted: 0, the whole canvas", is(maldjupp_paint(old, n, px, W * H, scratch, WORDS), MALDJUPP_ACCEPTED, 0, 0, 0, W, H));
+    check("painted: 0, the whole canvas", is(maldjupp_paint(old, n, px, W * H, scratch, words), MALDJUPP_ACCEPTED, 0, 0, 0, W, H));
     check("ground, paper, grade and bar", px[0] == 0xDEDBD2 && px[2 * W + 2] == 0xFDFCF8 && px[5 * W + 5] == copper && px[11 * W + 11] == 0x207A4E);
     check("the bar ends where it should", px[11 * W + 12] == 0xFDFCF8);
 
-    check("bar patched: its box", is(maldjupp_patch(old, n, new, m, px, W * H, scratch, WORDS), MALDJUPP_ACCEPTED, 0, 3, 11, 15, 13));
-    maldjupp_paint(new, m, fresh, W * H, scratch, WORDS);
+    check("bar patched: its box", is(maldjupp_patch(old, n, new, m, px, W * H, scratch, words), MALDJUPP_ACCEPTED, 0, 3, 11, 15, 13));
+    maldjupp_paint(new, m, fresh, W * H, scratch, words);
     check("the pixels are those of a fresh painting", memcmp(px, fresh, sizeof px) == 0 && px[11 * W + 14] == 0x207A4E);
 
     memcpy(old, new, n = m), m = ticket(brass, 12, new);
-    check("grade patched: its box", is(maldjupp_patch(old, n, new, m, px, W * H, scratch, WORDS), MALDJUPP_ACCEPTED, 0, 3, 3, 8, 8));
+    check("grade patched: its box", is(maldjupp_patch(old, n, new, m, px, W * H, scratch, words), MALDJUPP_ACCEPTED, 0, 3, 3, 8, 8));
     check("the grade is brass", px[5 * W + 5] == brass);
 
     memcpy(old, new, n = m), m = ticket(copper, 8, new);
-    check("grade and bar at once: the box around both", is(maldjupp_patch(old, n, new, m, px, W * H, scratch, WORDS), MALDJUPP_ACCEPTED, 0, 3, 3, 15, 13));
-    maldjupp_paint(new, m, fresh, W * H, scratch, WORDS);
+    check("grade and bar at once: the box around both", is(maldjupp_patch(old, n, new, m, px, W * H, scratch, words), MALDJUPP_ACCEPTED, 0, 3, 3, 15, 13));
+    maldjupp_paint(new, m, fresh, W * H, scratch, words);
     check("the pixels are those of a fresh painting", memcmp(px, fresh, sizeof px) == 0 && px[5 * W + 5] == copper);
 
     memcpy(old, new, n = m), m = ticket(brass, 12, new);
-    check("and back", is(maldjupp_patch(old, n, new, m, px, W * H, scratch, WORDS), MALDJUPP_ACCEPTED, 0, 3, 3, 15, 13));
+    check("and back", is(maldjupp_patch(old, n, new, m, px, W * H, scratch, words), MALDJUPP_ACCEPTED, 0, 3, 3, 15, 13));
 
-    n = pile(33, 4, old), m = pile(33, 6, new), maldjupp_paint(old, n, px, W * H, scratch, WORDS), memcpy(before, px, sizeof px);
-    check("33 shapes at once: refused 14", is(maldjupp_patch(old, n, new, m, px, W * H, scratch, WORDS), MALDJUPP_MANY, 0, 0, 0, 0, 0));
-    check("also where pixels are too few: 14 before 8", maldjupp_patch(old, n, new, m, px, 3, scratch, WORDS).number == MALDJUPP_MANY);
+    n = pile(33, 4, old), m = pile(33, 6, new), maldjupp_paint(old, n, px, W * H, scratch, words), memcpy(before, px, sizeof px);
+    check("33 shapes at once: refused 14", is(maldjupp_patch(old, n, new, m, px, W * H, scratch, words), MALDJUPP_MANY, 0, 0, 0, 0, 0));
+    check("also where pixels are too few: 14 before 8", maldjupp_patch(old, n, new, m, px, 3, scratch, words).number == MALDJUPP_MANY);
     check("refused, nothing is altered", memcmp(px, before, sizeof px) == 0);
     n = pile(32, 4, old), m = pile(32, 6, new);
-    check("32 at once: the box around all", is(maldjupp_patch(old, n, new, m, px, W * H, scratch, WORDS), MALDJUPP_ACCEPTED, 0, 2, 2, 8, 5));
+    check("32 at once: the box around all", is(maldjupp_patch(old, n, new, m, px, W * H, scratch, words), MALDJUPP_ACCEPTED, 0, 2, 2, 8, 5));
+}
 
-    n = ticket(brass, 12, old), m = ticket(brass, 12, new), new[4] ^= 1;
-    maldjupp_paint(old, n, px, W * H, scratch, WORDS), memcpy(before, px, sizeof px);
-    check("another ground: refused 10", is(maldjupp_patch(old, n, new, m, px, W * H, scratch, WORDS), MALDJUPP_DIFFERENCE, 0, 0, 0, 0, 0));
+/* Patches of the ticket that are refused, and the ticket call by call. */
+static void refusals(float *scratch, size_t words) {
+    static uint8_t old[MOST], new[MOST];
+    static uint32_t px[W * H], fresh[W * H], before[W * H];
+    size_t n = ticket(brass, 12, old), m = ticket(brass, 12, new);
+    maldjupp_paint(old, n, px, W * H, scratch, words), memcpy(before, px, sizeof px), new[4] ^= 1;
+    check("another ground: refused 10", is(maldjupp_patch(old, n, new, m, px, W * H, scratch, words), MALDJUPP_DIFFERENCE, 0, 0, 0, 0, 0));
     m = ticket(brass, 8193, new);
-    check("a bar of 8,193: refused 6 at item 3", is(maldjupp_patch(old, n, new, m, px, W * H, scratch, WORDS), MALDJUPP_FLOAT, 3, 0, 0, 0, 0));
+    check("a bar of 8,193: refused 6 at item 3", is(maldjupp_patch(old, n, new, m, px, W * H, scratch, words), MALDJUPP_FLOAT, 3, 0, 0, 0, 0));
     m = ticket(brass, 8, new);
-    check("11 bytes: refused 1", is(maldjupp_patch(old, n, new, 11, px, W * H, scratch, WORDS), MALDJUPP_SHEET_LENGTH, 0, 0, 0, 0, 0));
-    check("a pixel too few: refused 8", is(maldjupp_patch(old, n, new, m, px, W * H - 1, scratch, WORDS), MALDJUPP_PIXELS, 0, 0, 0, 0, 0));
-    /* The triangle's box is 4 by 4, made 2 larger: (6 + 2) * 6 + 2 words. */
-    check("49 words of scratch: refused 9", is(maldjupp_patch(old, n, new, m, px, W * H, scratch, 49), MALDJUPP_SCRATCH, 0, 0, 0, 0, 0));
+    check("11 bytes: refused 1", is(maldjupp_patch(old, n, new, 11, px, W * H, scratch, words), MALDJUPP_SHEET_LENGTH, 0, 0, 0, 0, 0));
+    check("a pixel too few: refused 8", is(maldjupp_patch(old, n, new, m, px, W * H - 1, scratch, words), MALDJUPP_PIXELS, 0, 0, 0, 0, 0));
+    check("a word of scratch too few: refused 9",
+          is(maldjupp_patch(old, n, new, m, px, W * H, scratch, words - 1), MALDJUPP_SCRATCH, 0, 0, 0, 0, 0));
     check("refused, nothing is altered", memcmp(px, before, sizeof px) == 0);
-    check("50 words are enough", is(maldjupp_patch(old, n, new, m, px, W * H, scratch, 50), MALDJUPP_ACCEPTED, 0, 3, 11, 15, 13));
+    check("the words measured are enough", is(maldjupp_patch(old, n, new, m, px, W * H, scratch, words), MALDJUPP_ACCEPTED, 0, 3, 11, 15, 13));
 
-    maldjupp_paint(new, m, fresh, W * H, scratch, WORDS);
-    check("the ticket is drawn call by call", ticket_calls(brass, 8, scratch, 50));
+    maldjupp_paint(new, m, fresh, W * H, scratch, words);
+    check("the ticket is drawn call by call", ticket_calls(brass, 8, scratch, words));
     check("its pixels are those of the sheet", memcmp(px2, fresh, sizeof fresh) == 0);
-    check("49 words of scratch: refused 9", !ticket_calls(brass, 8, scratch, 49) && memcmp(px2, fresh, sizeof fresh) != 0);
+    check("a word of scratch too few: refused 9", !ticket_calls(brass, 8, scratch, words - 1) && memcmp(px2, fresh, sizeof fresh) != 0);
+}
+
+int main(void) {
+    static uint8_t sheet[MOST];
+    struct maldjupp_room room = maldjupp_measure(sheet, ticket(copper, 9, sheet));
+    float *scratch = calloc(room.words + 1, sizeof *scratch);
+    if (!scratch) return fprintf(stderr, "there is no memory\n"), 1;
+    check("measured: 50 words, no clip, 387 pixels", is_room(room, MALDJUPP_ACCEPTED, 0, 50, 0, 308 + 25 + 18 + 36));
+    patches(scratch, room.words);
+    refusals(scratch, room.words);
+    free(scratch);
+    rooms();
     calls();
     shapes();
     traces();

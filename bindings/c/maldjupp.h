@@ -59,16 +59,26 @@ struct maldjupp_reply {
  * and four floats, with zero bytes for what its kind does not use. There are at most 64 points. A polyline is drawn as by maldjupp_polyline: a
  * joint is blended by both of its lines, so that with an alpha under 255 it shows. In a patch it counts whole, as one shape. */
 
-/* Paints a sheet: every pixel the ground, then its items in their order. `pixels` must be width times height. Scratch is needed for
- * polygons alone: of each with at least 3 points, (bw + 2) * bh + 2 words, where bw and bh are the sides of the box around its points
- * (floors of the least, ceilings of the greatest), each made 2 larger; none where bw * bh is over 4,000,000. The sheet needs the
- * greatest of these. Accepted, the box is the whole canvas. Refused, no pixel and no scratch word is altered. */
+/* What painting a sheet takes. Refused, the last three are 0. */
+struct maldjupp_room {
+    uint32_t number; /* 0 where accepted, else as painting gives it: 1 to 7 or 13 */
+    uint32_t item;   /* as in an answer */
+    size_t words;    /* scratch words: the least with which painting is not refused by 9 */
+    size_t saved;    /* the most clips saved at once, 0 to 16 */
+    uint64_t pixels; /* a figure for the work: the pixels in a shape's reach and in its clip, summed over the shapes; at most 2^32 */
+};
+
+/* Tells what painting a sheet takes, without pixels or scratch. Patching to this sheet needs the same words. Polygons alone need any. */
+struct maldjupp_room maldjupp_measure(const uint8_t *sheet, size_t bytes);
+
+/* Paints a sheet: every pixel the ground, then its items in their order. `pixels` must be width times height; maldjupp_measure tells how
+ * many words of scratch are needed. Accepted, the box is the whole canvas. Refused, no pixel and no scratch word is altered. */
 struct maldjupp_reply maldjupp_paint(const uint8_t *sheet, size_t bytes, uint32_t *px, size_t pixels, float *scratch, size_t words);
 
-/* Patches pixels that show the old sheet to the new one. The two may differ in up to 32 shapes. Scratch is what the new sheet needs.
- * Accepted, the box is the smallest around these shapes, old and new, on the canvas, and no pixel outside it is altered; the pixels are
- * those that painting the new sheet gives, and the new sheet is the old one of the next patch. Refused, nothing is altered, and the old
- * sheet stays the old one. */
+/* Patches pixels that show the old sheet to the new one. The two may differ in up to 32 shapes. Scratch is what the new sheet
+ * needs; maldjupp_measure tells how many words. Accepted, the box is the smallest around these shapes, old and new, on the canvas, and no
+ * pixel outside it is altered; the pixels are those that painting the new sheet gives, and the new sheet is the old one of the next patch.
+ * Refused, nothing is altered, and the old sheet stays the old one. */
 struct maldjupp_reply maldjupp_patch(const uint8_t *old_sheet, size_t old_bytes, const uint8_t *new_sheet, size_t new_bytes,
                                      uint32_t *px, size_t pixels, float *scratch, size_t words);
 
@@ -221,7 +231,9 @@ struct maldjupp_done maldjupp_line(struct maldjupp_canvas canvas, uint32_t *px, 
 struct maldjupp_done maldjupp_polyline(struct maldjupp_canvas canvas, uint32_t *px, size_t pixels, const float *points, size_t count,
                                        float width, struct maldjupp_color color);
 
-/* A polygon, filled. Its scratch is that of a polygon in a sheet (see maldjupp_paint); so many words are left 0. */
+/* A polygon, filled. With at least 3 points it needs (bw + 2) * bh + 2 words of scratch, where bw and bh are the sides of the box around
+ * its points (floors of the least, ceilings of the greatest), each made 2 larger; none where bw * bh is over 4,000,000, since it is not
+ * painted then. So many words are left 0. maldjupp_measure tells the same of a sheet that holds the polygon alone. */
 struct maldjupp_done maldjupp_fill_poly(struct maldjupp_canvas canvas, uint32_t *px, size_t pixels, const float *points, size_t count,
                                         struct maldjupp_brush brush, float *scratch, size_t words);
 

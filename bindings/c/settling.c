@@ -6,13 +6,17 @@
 #include "maldjupp.h"
 
 #include <stdio.h>
+#include <stdlib.h>
 #include <string.h>
 
-enum { BYTES = 60000, PIXELS = 640 * 400, WORDS = 70000 };
+enum { BYTES = 60000, PIXELS = 640 * 400 };
 
 static uint8_t old[BYTES], new[BYTES];
 static uint32_t px[PIXELS], fresh[PIXELS];
-static float scratch[WORDS];
+
+/* Scratch, of so many words. */
+static float *scratch;
+static size_t words;
 
 /* The bytes of a file; 0 where there is none, or where it is longer than a sheet can be. */
 static size_t bytes_of(const char *name, uint8_t sheet[BYTES]) {
@@ -27,6 +31,15 @@ static size_t bytes_of(const char *name, uint8_t sheet[BYTES]) {
 static size_t width(const uint8_t *sheet) { return sheet[0] | sheet[1] << 8; }
 
 static size_t height(const uint8_t *sheet) { return sheet[2] | sheet[3] << 8; }
+
+/* Makes scratch as large as a sheet needs; whether there is any. A word more keeps the pointer from being null. */
+static bool lend(const uint8_t *sheet, size_t n) {
+    size_t need = maldjupp_measure(sheet, n).words;
+    if (scratch && need <= words) return true;
+    free(scratch);
+    scratch = calloc(need + 1, sizeof *scratch), words = scratch ? need : 0;
+    return scratch != NULL;
+}
 
 /* Writes the pixels of a sheet as a PPM; whether it could. */
 static bool write_ppm(const char *folder, const char *name, const uint8_t *sheet) {
@@ -51,9 +64,10 @@ static int refused(const char *name, struct maldjupp_reply r) {
 /* Patches from the old sheet to the file's, and holds the pixels to a fresh painting; 0 where all is as it should be. */
 static int patch(const char *name, size_t *n) {
     size_t m = bytes_of(name, new), pixels = width(old) * height(old);
-    struct maldjupp_reply r = maldjupp_patch(old, *n, new, m, px, pixels, scratch, WORDS);
+    if (!lend(new, m)) return fprintf(stderr, "there is no memory\n"), 1;
+    struct maldjupp_reply r = maldjupp_patch(old, *n, new, m, px, pixels, scratch, words);
     if (r.number != MALDJUPP_ACCEPTED) return refused(name, r);
-    maldjupp_paint(new, m, fresh, pixels, scratch, WORDS);
+    maldjupp_paint(new, m, fresh, pixels, scratch, words);
     if (memcmp(px, fresh, 4 * pixels) != 0) {
         fprintf(stderr, "%s: the pixels are not those of a fresh painting\n", name);
         return 1;
@@ -64,16 +78,19 @@ static int patch(const char *name, size_t *n) {
     return 0;
 }
 
-int main(int count, char **words) {
+int main(int count, char **given) {
     if (count < 3) return fprintf(stderr, "usage: settling OUT SHEET SHEET ..\n"), 2;
-    size_t n = bytes_of(words[2], old), pixels = width(old) * height(old);
-    struct maldjupp_reply r = maldjupp_paint(old, n, px, pixels < PIXELS ? pixels : PIXELS, scratch, WORDS);
-    if (r.number != MALDJUPP_ACCEPTED) return refused(words[2], r);
-    printf("painted %zu x %zu\n", width(old), height(old));
-    if (!write_ppm(words[1], "start.ppm", old)) return fprintf(stderr, "start.ppm cannot be written\n"), 1;
+    size_t n = bytes_of(given[2], old), pixels = width(old) * height(old);
+    if (!lend(old, n)) return fprintf(stderr, "there is no memory\n"), 1;
+    struct maldjupp_reply r = maldjupp_paint(old, n, px, pixels < PIXELS ? pixels : PIXELS, scratch, words);
+    if (r.number != MALDJUPP_ACCEPTED) return refused(given[2], r);
+    struct maldjupp_room room = maldjupp_measure(old, n);
+    printf("painted %zu x %zu: %zu words of scratch, %zu clips saved at once, %llu pixels in its shapes\n", width(old), height(old), room.words,
+           room.saved, (unsigned long long)room.pixels);
+    if (!write_ppm(given[1], "start.ppm", old)) return fprintf(stderr, "start.ppm cannot be written\n"), 1;
     for (int i = 3; i < count; i++)
-        if (patch(words[i], &n) != 0) return 1;
-    if (!write_ppm(words[1], "ticket.ppm", old)) return fprintf(stderr, "ticket.ppm cannot be written\n"), 1;
+        if (patch(given[i], &n) != 0) return 1;
+    if (!write_ppm(given[1], "ticket.ppm", old)) return fprintf(stderr, "ticket.ppm cannot be written\n"), 1;
     printf("%d patches: after each, the pixels are those of a fresh painting\n", count - 3);
     return 0;
 }

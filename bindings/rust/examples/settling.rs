@@ -2,7 +2,7 @@
 //!
 //! After every patch the pixels must be those of a fresh painting, and none outside the returned box altered. Writes start.ppm, ticket.ppm
 //! (the last) and boxes.ppm (the last, paled, with every box outlined) into OUT.
-use maldjupp::{to_ppm, IRect, Ticket};
+use maldjupp::{room, to_ppm, IRect, Room, Ticket};
 use std::{env, error::Error, fs, path::Path, path::PathBuf};
 
 /// The colour of a box's outline, by the word in its sheet's name.
@@ -30,8 +30,8 @@ fn paled(p: u32) -> u32 {
 }
 
 fn main() -> Result<(), Box<dyn Error>> {
-    let words: Vec<String> = env::args().skip(1).collect();
-    let [folder, out] = &words[..] else { return Err("usage: settling FOLDER OUT".into()) };
+    let given: Vec<String> = env::args().skip(1).collect();
+    let [folder, out] = &given[..] else { return Err("usage: settling FOLDER OUT".into()) };
     let out = Path::new(out);
     let mut files: Vec<PathBuf> = fs::read_dir(folder)?.map(|entry| entry.map(|e| e.path())).collect::<Result<_, _>>()?;
     files.retain(|file| file.extension().is_some_and(|e| e == "sheet"));
@@ -40,7 +40,8 @@ fn main() -> Result<(), Box<dyn Error>> {
 
     let mut ticket = Ticket::from_bytes(fs::read(first)?)?;
     let (w, h, items) = (ticket.width(), ticket.height(), ticket.builder().items());
-    println!("painted {w} x {h}, {items} items");
+    let Room { words, saved, pixels } = room(ticket.sheet())?;
+    println!("painted {w} x {h}, {items} items: {words} words of scratch, {saved} clips saved at once, {pixels} pixels in its shapes");
     fs::write(out.join("start.ppm"), ticket.to_ppm())?;
 
     let mut boxes = vec![];

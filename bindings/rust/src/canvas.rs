@@ -1,6 +1,6 @@
 //! The canvas: pixels that are drawn on call by call.
-use crate::raw::{Done, State};
-use crate::{sheet, to_ppm, Color, IRect, Paint, Pt, Rect, Refusal};
+use crate::raw::{self, Done, State};
+use crate::{sheet, to_ppm, Color, IRect, Paint, Pt, Rect, Refusal, SheetBuilder};
 
 /// A canvas with its pixels, and kash-ui's calls. The sides are 1 to 2,048; up to 16 clips are saved at once.
 ///
@@ -36,6 +36,12 @@ fn pixels(w: i32, h: i32) -> usize {
 
 fn state(done: Done) -> Result<State, Refusal> {
     Refusal::of(done.number).map_or(Ok(done.state), Err)
+}
+
+/// The scratch words that a polygon needs, asked of a sheet that holds it alone; 0 where there is no such sheet.
+fn words(points: &[Pt], paint: Paint) -> usize {
+    let alone = |mut b: SheetBuilder| b.fill_poly(points, paint).map(|_| b.bytes());
+    SheetBuilder::new(1, 1, Color::BLACK).and_then(alone).map_or(0, |sheet| raw::measure(&sheet).words)
 }
 
 impl Canvas {
@@ -130,11 +136,14 @@ impl Canvas {
 
     /// Fills a polygon of at most 64 points.
     pub fn fill_poly(&mut self, points: &[Pt], paint: impl Into<Paint>) -> Result<(), Refusal> {
-        let need = sheet::polygon_words(points);
-        if self.scratch.len() < need {
-            self.scratch.resize(need, 0.0);
+        let paint = paint.into();
+        let mut draw = |scratch: &mut [f32]| state(self.state.fill_poly(&mut self.px, points, paint.into(), scratch));
+        let mut drawn = draw(&mut self.scratch);
+        if drawn == Err(Refusal::Scratch) {
+            self.scratch.resize(words(points, paint), 0.0);
+            drawn = draw(&mut self.scratch);
         }
-        self.state = state(self.state.fill_poly(&mut self.px, points, paint.into().into(), &mut self.scratch))?;
+        self.state = drawn?;
         Ok(())
     }
 
@@ -166,5 +175,43 @@ impl Canvas {
     fn on(&mut self, call: impl FnOnce(State, &mut [u32]) -> Done) -> Result<(), Refusal> {
         self.state = state(call(self.state, &mut self.px))?;
         Ok(())
+    }
+}
+
+#[cfg(test)]
+mod tests {
+    use super::*;
+    use crate::Ticket;
+
+    /// A triangle over the half of a square.
+    fn corner(side: f32) -> [Pt; 3] {
+        [Pt::default(), Pt::new(side, 0.0), Pt::new(0.0, side)]
+    }
+
+    /// Scratch grows to what the polygon needs, and only where what is held is refused.
+    #[test]
+    fn scratch_grows_with_the_polygon() {
+        let mut canvas = Canvas::new(40, 30).unwrap();
+        for (side, held) in [(4.0, 50), (3.0, 50), (20.0, 530), (4.0, 530), (1996.0, 2000 * 1998 + 2)] {
+            let mut b = SheetBuilder::new(40, 30, Color::BLACK).unwrap();
+            b.fill_poly(&corner(side), Color::WHITE).unwrap();
+            canvas.clear(Color::BLACK).unwrap();
+            assert_eq!(canvas.fill_poly(&corner(side), Color::WHITE), Ok(()));
+            assert_eq!((canvas.scratch.len(), canvas.px()), (held, Ticket::paint(&b).unwrap().px()));
+            assert_eq!(canvas.get(0, 0), 0xFF_FFFF);
+        }
+    }
+
+    /// None for what is not painted or refused otherwise, which alters nothing.
+    #[test]
+    fn scratch_stays_where_none_is_needed() {
+        let mut canvas = Canvas::new(40, 30).unwrap();
+        assert_eq!(canvas.fill_poly(&corner(4.0)[..2], Color::WHITE), Ok(()));
+        assert_eq!(canvas.fill_poly(&corner(8000.0), Color::WHITE), Ok(()));
+        assert_eq!(canvas.fill_poly(&corner(9000.0), Color::WHITE), Err(Refusal::Float));
+        assert_eq!(canvas.fill_poly(&[Pt::default(); 65], Color::WHITE), Err(Refusal::Points));
+        let paint = Paint::VGrad { y0: f32::NAN, y1: 9.0, c0: Color::WHITE, c1: Color::BLACK };
+        assert_eq!(canvas.fill_poly(&corner(4.0), paint), Err(Refusal::Float));
+        assert_eq!((canvas.scratch.len(), canvas.px()), (0, &[0; 40 * 30][..]));
     }
 }

@@ -37,6 +37,8 @@
 //! # Ok::<(), Box<dyn std::error::Error>>(())
 //! ```
 //!
+//! What painting a sheet takes, [`room`] tells before it is painted: scratch, saved clips, and pixels as a figure for the work.
+//!
 //! A program that shows sheets can be tried on [`clip_orders`], every small order of clips and fills.
 //!
 //! The library is found by the build script: in the folder that `MALDJUPP_LIB_DIR` names, else where `rt staticlib maldjupp` writes it.
@@ -44,6 +46,7 @@
 #![warn(missing_docs)]
 
 mod canvas;
+mod measure;
 mod orders;
 #[allow(unsafe_code)]
 mod raw;
@@ -53,6 +56,7 @@ mod ticket;
 mod values;
 
 pub use canvas::Canvas;
+pub use measure::{room, Room};
 pub use orders::{clip_order, clip_orders, ClipOrders, LONGEST_CLIP_ORDER};
 pub use refusal::{Error, Refusal, Refused, SheetError};
 pub use sheet::{Shape, SheetBuilder};

@@ -9,6 +9,16 @@ pub struct Reply {
     pub area: IRect,
 }
 
+/// A number, the item that it names, and what painting a sheet takes: scratch words, saved clips and pixels.
+#[repr(C)]
+pub struct Room {
+    pub number: u32,
+    pub item: u32,
+    pub words: usize,
+    pub saved: usize,
+    pub pixels: u64,
+}
+
 /// A number, the item that it names, and the bytes written.
 #[repr(C)]
 pub struct Written {
@@ -82,6 +92,7 @@ extern "C" {
         scratch: *mut f32,
         words: usize,
     ) -> Reply;
+    fn maldjupp_measure(sheet: *const u8, bytes: usize) -> Room;
     fn maldjupp_clip_order(number: usize, buf: *mut u8, room: usize) -> Written;
     fn maldjupp_new(w: i32, h: i32, px: *mut u32, pixels: usize) -> Done;
     fn maldjupp_resize(canvas: State, w: i32, h: i32, px: *mut u32, pixels: usize) -> Done;
@@ -151,6 +162,11 @@ pub fn patch(old: &[u8], new: &[u8], px: &mut [u32], scratch: &mut [f32]) -> Rep
             scratch.len(),
         )
     }
+}
+
+/// Measures a sheet: what painting it takes.
+pub fn measure(sheet: &[u8]) -> Room {
+    unsafe { maldjupp_measure(sheet.as_ptr(), sheet.len()) }
 }
 
 /// Writes the clip order of a number, from 0, into a buffer.

@@ -129,6 +129,13 @@ pub struct Refused {
     pub item: u32,
 }
 
+impl Refused {
+    /// The refusal of an answer by its number and item; none of number 0.
+    pub(crate) fn of(number: u32, item: u32) -> Option<Refused> {
+        Refusal::of(number).map(|refusal| Refused { refusal, item })
+    }
+}
+
 impl fmt::Display for Refused {
     fn fmt(&self, f: &mut fmt::Formatter) -> fmt::Result {
         write!(f, "refused {} at {}: {}", self.refusal.number(), self.item, self.refusal)

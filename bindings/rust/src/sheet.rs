@@ -1,5 +1,5 @@
 //! The sheet: a header, pairs of offset and length, and the items in the order in which they are drawn.
-use crate::{Color, Paint, Pt, Rect, SheetError};
+use crate::{room, Color, Paint, Pt, Rect, Refused, Room, SheetError};
 
 const LIMIT: f32 = 8192.0;
 const SIDES: std::ops::RangeInclusive<u32> = 1..=2048;
@@ -9,7 +9,6 @@ const MOST_BYTES: usize = 60_000;
 const MOST_ITEMS: usize = 1_024;
 const MOST_CLIPS: usize = 16;
 const MOST_POINTS: usize = 64;
-const MOST_CELLS: i64 = 4_000_000;
 
 const PUSH: u8 = 1;
 const POP: u8 = 2;
@@ -317,7 +316,7 @@ impl SheetBuilder {
     /// Saves the clip and cuts it to a rectangle. At most 16 clips are saved at once.
     pub fn push_clip(&mut self, rect: Rect) -> Result<usize, SheetError> {
         let item = Item::new(PUSH).rect(&rect);
-        self.room(self.items() + 1, self.body.len() + item.bytes.len())?;
+        self.fits(self.items() + 1, self.body.len() + item.bytes.len())?;
         item.within_limits()?;
         if self.saved == MOST_CLIPS {
             return Err(SheetError::Clips);
@@ -329,7 +328,7 @@ impl SheetBuilder {
     /// Takes back the clip saved last; does nothing where none is saved.
     pub fn pop_clip(&mut self) -> Result<usize, SheetError> {
         let item = Item::new(POP);
-        self.room(self.items() + 1, self.body.len() + item.bytes.len())?;
+        self.fits(self.items() + 1, self.body.len() + item.bytes.len())?;
         self.saved = self.saved.saturating_sub(1);
         Ok(self.append(item))
     }
@@ -382,7 +381,7 @@ impl SheetBuilder {
     /// Adds a shape at the end.
     pub fn add(&mut self, shape: &Shape) -> Result<usize, SheetError> {
         let item = shape.item();
-        self.room(self.items() + 1, self.body.len() + item.bytes.len())?;
+        self.fits(self.items() + 1, self.body.len() + item.bytes.len())?;
         item.within_limits()?;
         Ok(self.append(item))
     }
@@ -397,11 +396,27 @@ impl SheetBuilder {
             return Err(SheetError::NotAShape { index });
         }
         let item = shape.item();
-        self.room(self.items(), self.body.len() - length + item.bytes.len())?;
+        self.fits(self.items(), self.body.len() - length + item.bytes.len())?;
         item.within_limits()?;
         self.lengths[index] = item.bytes.len() as u16;
         self.body.splice(at..at + length, item.bytes);
         Ok(())
+    }
+
+    /// What painting this sheet takes, without pixels or scratch; [`room`] tells it of bytes.
+    ///
+    /// ```
+    /// use maldjupp::{Color, Pt, Rect, SheetBuilder};
+    /// let mut b = SheetBuilder::new(24, 16, Color::WHITE)?;
+    /// b.fill_rect(Rect::new(3.0, 11.0, 9.0, 2.0), Color::BLACK)?;
+    /// assert_eq!(b.room()?.words, 0);
+    /// // Polygons alone need scratch.
+    /// b.fill_poly(&[Pt::new(17.0, 3.0), Pt::new(21.0, 3.0), Pt::new(17.0, 7.0)], Color::BLACK)?;
+    /// assert_eq!(b.room()?.words, 50);
+    /// # Ok::<(), Box<dyn std::error::Error>>(())
+    /// ```
+    pub fn room(&self) -> Result<Room, Refused> {
+        room(&self.bytes())
     }
 
     /// The sheet's bytes.
@@ -424,7 +439,7 @@ impl SheetBuilder {
         sheet
     }
 
-    fn room(&self, items: usize, body: usize) -> Result<(), SheetError> {
+    fn fits(&self, items: usize, body: usize) -> Result<(), SheetError> {
         let bytes = HEADER + PAIR * items + body;
         if bytes > MOST_BYTES {
             Err(SheetError::Length { bytes })
@@ -465,45 +480,5 @@ pub(crate) fn pixels(sheet: &[u8]) -> usize {
             area(w, h)
         }
         _ => 0,
-    }
-}
-
-/// Scratch words that a sheet needs: the greatest need among its polygons. Of a sheet that is refused anyway, any number.
-pub(crate) fn scratch_words(sheet: &[u8]) -> usize {
-    let pairs = sheet.get(HEADER..).unwrap_or_default().chunks_exact(PAIR);
-    let count = sheet.get(8..10).map_or(0, |n| u16::from_le_bytes([n[0], n[1]]) as usize);
-    let item = |pair: &[u8]| {
-        let at = u16::from_le_bytes([pair[0], pair[1]]) as usize;
-        let length = u16::from_le_bytes([pair[2], pair[3]]) as usize;
-        sheet.get(at..at + length)
-    };
-    pairs.take(count).filter_map(item).map(|item| polygon_words(&corners(item))).max().unwrap_or(0)
-}
-
-/// The corners of a polygon's item; none of any other item.
-fn corners(item: &[u8]) -> Vec<Pt> {
-    let float = |b: &[u8]| f32::from_le_bytes([b[0], b[1], b[2], b[3]]);
-    match item {
-        [POLYGON, ..] => item.get(32..).unwrap_or_default().chunks_exact(8).map(|p| Pt::new(float(p), float(&p[4..]))).collect(),
-        _ => vec![],
-    }
-}
-
-/// Scratch words that a polygon needs. Of one that is refused anyway, any number.
-pub(crate) fn polygon_words(points: &[Pt]) -> usize {
-    let within = |p: &Pt| [p.x, p.y].iter().all(|v| (-LIMIT..=LIMIT).contains(v));
-    if points.len() < 3 || !points.iter().all(within) {
-        return 0;
-    }
-    let side = |of: fn(&Pt) -> f32| {
-        let least = points.iter().map(of).fold(f32::MAX, f32::min);
-        let most = points.iter().map(of).fold(f32::MIN, f32::max);
-        (most.ceil() as i64 + 1) - (least.floor() as i64 - 1)
-    };
-    let (w, h) = (side(|p| p.x), side(|p| p.y));
-    if w * h > MOST_CELLS {
-        0
-    } else {
-        ((w + 2) * h + 2) as usize
     }
 }

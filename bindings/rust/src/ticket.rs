@@ -26,10 +26,7 @@ pub struct Ticket {
 }
 
 fn answer(reply: raw::Reply) -> Result<IRect, Refused> {
-    match Refusal::of(reply.number) {
-        None => Ok(reply.area),
-        Some(refusal) => Err(Refused { refusal, item: reply.item }),
-    }
+    Refused::of(reply.number, reply.item).map_or(Ok(reply.area), Err)
 }
 
 impl Ticket {
@@ -41,7 +38,7 @@ impl Ticket {
     /// Paints a sheet given as bytes, which may be any.
     pub fn from_bytes(sheet: Vec<u8>) -> Result<Ticket, Refused> {
         let mut px = vec![0; sheet::pixels(&sheet)];
-        let mut scratch = vec![0.0; sheet::scratch_words(&sheet)];
+        let mut scratch = vec![0.0; raw::measure(&sheet).words];
         answer(raw::paint(&sheet, &mut px, &mut scratch))?;
         Ok(Ticket { sheet, px, scratch })
     }
@@ -49,11 +46,14 @@ impl Ticket {
     /// Patches the ticket to a new sheet, which may be any bytes, and returns the box outside which no pixel was altered: the smallest
     /// around the shapes that differ, of which there may be up to 32. Refused, the ticket stays as it is.
     pub fn patch(&mut self, new: Vec<u8>) -> Result<IRect, Refused> {
-        let need = sheet::scratch_words(&new);
-        if self.scratch.len() < need {
-            self.scratch.resize(need, 0.0);
+        let mut patch = |scratch: &mut [f32]| answer(raw::patch(&self.sheet, &new, &mut self.px, scratch));
+        let mut altered = patch(&mut self.scratch);
+        // A patch that is refused alters nothing, so it can be tried again with what the new sheet needs.
+        if altered.is_err_and(|refused| refused.refusal == Refusal::Scratch) {
+            self.scratch.resize(raw::measure(&new).words, 0.0);
+            altered = patch(&mut self.scratch);
         }
-        let altered = answer(raw::patch(&self.sheet, &new, &mut self.px, &mut self.scratch))?;
+        let altered = altered?;
         self.sheet = new;
         Ok(altered)
     }
@@ -130,34 +130,7 @@ pub fn to_ppm(width: usize, px: &[u32]) -> Vec<u8> {
 #[cfg(test)]
 mod tests {
     use super::*;
-    use crate::{Color, Pt, Rect};
-
-    /// The scratch lent is the least that is not refused.
-    #[test]
-    fn scratch_is_just_enough() {
-        for (x, y) in [(2.0, 2.0), (3.5, 0.25), (40.0, 7.0), (-3.5, 9.0), (1994.0, 1998.0)] {
-            let mut b = SheetBuilder::new(4, 4, Color::BLACK).unwrap();
-            b.fill_poly(&[Pt::new(0.0, 0.0), Pt::new(x, 0.0), Pt::new(x, y)], Color::WHITE).unwrap();
-            b.fill_rect(Rect::new(0.0, 0.0, 1.0, 1.0), Color::WHITE).unwrap();
-            let (bytes, mut px) = (b.bytes(), vec![0; 16]);
-            let need = sheet::scratch_words(&bytes);
-            assert!(need > 0);
-            assert_eq!(raw::paint(&bytes, &mut px, &mut vec![f32::NAN; need]).number, 0);
-            assert_eq!(raw::paint(&bytes, &mut px, &mut vec![f32::NAN; need - 1]).number, Refusal::Scratch.number());
-        }
-    }
-
-    /// None for polylines, whatever stands beside them.
-    #[test]
-    fn a_polyline_needs_no_scratch() {
-        let points = [Pt::new(0.0, 0.0), Pt::new(3.0, 0.0), Pt::new(3.0, 2.0)];
-        let mut b = SheetBuilder::new(4, 4, Color::BLACK).unwrap();
-        b.polyline(&points, 1.0, Color::WHITE).unwrap();
-        assert_eq!(sheet::scratch_words(&b.bytes()), 0);
-        assert_eq!(raw::paint(&b.bytes(), &mut [0; 16], &mut []).number, 0);
-        b.fill_poly(&points, Color::WHITE).unwrap();
-        assert_eq!(sheet::scratch_words(&b.bytes()), sheet::polygon_words(&points));
-    }
+    use crate::{Color, Pt};
 
     #[test]
     fn wrong_pixels_are_refused() {
@@ -165,5 +138,29 @@ mod tests {
         let reply = raw::paint(&sheet, &mut [0; 3], &mut []);
         assert_eq!(answer(reply), Err(Refused { refusal: Refusal::Pixels, item: 0 }));
         assert_eq!(answer(raw::paint(&sheet, &mut [0; 4], &mut [])), Ok(IRect::new(0, 0, 4, 1)));
+    }
+
+    /// A ticket lends what the library tells of its sheet, and more for a patch to a larger polygon. A refused patch alters nothing.
+    #[test]
+    fn scratch_grows_with_the_sheet() {
+        let corner = |side: f32| Shape::fill_poly(&[Pt::default(), Pt::new(side, 0.0), Pt::new(0.0, side)], Color::WHITE);
+        let words = |ticket: &Ticket| ticket.builder().room().unwrap().words;
+        let mut b = SheetBuilder::new(40, 30, Color::BLACK).unwrap();
+        b.add(&corner(4.0)).unwrap();
+        let mut ticket = Ticket::paint(&b).unwrap();
+        assert_eq!((ticket.scratch.len(), words(&ticket)), (50, 50));
+        assert_eq!(ticket.replace(0, corner(20.0)), Ok(IRect::new(0, 0, 21, 21)));
+        assert_eq!((ticket.scratch.len(), words(&ticket)), (530, 530));
+        assert_eq!(ticket.px(), Ticket::paint(&ticket.builder()).unwrap().px());
+        assert_eq!(ticket.replace(0, corner(3.0)), Ok(IRect::new(0, 0, 21, 21)));
+        assert_eq!((ticket.scratch.len(), words(&ticket)), (530, 37));
+
+        b.add(&corner(30.0)).unwrap();
+        let (before, mut bad) = (ticket.clone(), b.bytes());
+        assert_eq!(ticket.patch(bad.clone()), Err(Refused { refusal: Refusal::Difference, item: 0 }));
+        let end = bad.len() - 4;
+        bad[end..].copy_from_slice(&f32::NAN.to_le_bytes());
+        assert_eq!(ticket.patch(bad), Err(Refused { refusal: Refusal::Float, item: 2 }));
+        assert_eq!((ticket.px(), ticket.sheet()), (before.px(), before.sheet()));
     }
 }

@@ -1,5 +1,5 @@
 //! The builder and the ticket against the library, on random calls. `Plain` writes the format without any limit.
-use maldjupp::{Color, Error, IRect, Paint, Pt, Rect, Refusal, Refused, Shape, SheetBuilder, SheetError, Ticket};
+use maldjupp::{room, Color, Error, IRect, Paint, Pt, Rect, Refusal, Refused, Shape, SheetBuilder, SheetError, Ticket};
 use random::Random;
 use std::{fs, path::Path};
 
@@ -112,6 +112,7 @@ fn add(b: &mut SheetBuilder, plain: &mut Plain, random: &mut Random, refused: &m
             let refusal = error.refusal().expect("a refusal of the library");
             refused[refusal.number() as usize] += 1;
             let item = if matches!(refusal, Refusal::SheetLength | Refusal::Header) { 0 } else { longer.items.len() as u32 };
+            assert_eq!(room(&longer.bytes()), Err(Refused { refusal, item }), "{error}");
             assert_eq!(Ticket::from_bytes(longer.bytes()).unwrap_err(), Refused { refusal, item }, "{error}");
         }
     }
@@ -292,7 +293,7 @@ fn every_number_has_its_sentence() {
     assert_eq!(Refusal::of(15), Some(Refusal::Other(15)));
 }
 
-/// Any bytes: the answer is a ticket or a refusal.
+/// Any bytes: the answer is a ticket or a refusal, and measuring gives the same refusal.
 #[test]
 fn damaged_sheets() {
     let mut random = Random(3);
@@ -310,12 +311,17 @@ fn damaged_sheets() {
         if random.below(8) == 0 {
             sheet.truncate(random.below(sheet.len() as u64) as usize);
         }
+        let told = room(&sheet);
         match Ticket::from_bytes(sheet) {
             Ok(ticket) => {
                 seen[0] += 1;
                 assert_eq!(ticket.builder().bytes(), ticket.sheet());
+                assert_eq!((told.is_ok(), told), (true, ticket.builder().room()));
             }
-            Err(refused) => seen[refused.refusal.number() as usize] += 1,
+            Err(refused) => {
+                seen[refused.refusal.number() as usize] += 1;
+                assert_eq!(told, Err(refused));
+            }
         }
     }
     assert!([0, 1, 2, 3, 4, 5, 6].iter().all(|n| seen[*n] > 0) && seen[8] == 0 && seen[9] == 0, "{seen:?}");
