@@ -2,7 +2,7 @@
 // asked for.
 use geom::IRect;
 use gfx::Canvas;
-use items::read_rect;
+use items::rect_of;
 use sheet::byte_at;
 use sheet::u16_at;
 ghost use mathlib.Core.Path.{_≡_};
@@ -70,7 +70,7 @@ pub fn state_after(b: &[u8], canvas: Canvas) -> Canvas
 {
     let kind = byte_at(b, 0);
     match kind {
-        1 => canvas.push_clip(read_rect(b, 4)).canvas,
+        1 => canvas.push_clip(rect_of(b)).canvas,
         2 => canvas.pop_clip().canvas,
         0 | 3..=255 => canvas,
     }

@@ -94,7 +94,7 @@ fn cut_rect(s: &[u8], p: usize) -> Rect
 }
 
 // One test for its sixteen bytes, so that none of them needs its own.
-pub fn read_rect(s: &[u8], p: usize) -> Rect
+pub(crate) fn read_rect(s: &[u8], p: usize) -> Rect
     requires { ⌜ p < 131072 ⌝ }
     ensures { λ r. ⌜ r ≡ readRect (now (s .entry)) p ⌝ }
 {
@@ -107,6 +107,13 @@ pub fn read_rect(s: &[u8], p: usize) -> Rect
         f32_at(s, p + 8),
         f32_at(s, p + 12),
     )
+}
+
+// The rectangle of an item that has one, by its bytes.
+pub fn rect_of(b: &[u8]) -> Rect
+    ensures { λ r. ⌜ r ≡ readRect (now (b .entry)) 4 ⌝ }
+{
+    read_rect(b, 4)
 }
 
 fn read_paint(s: &[u8], p: usize) -> Paint

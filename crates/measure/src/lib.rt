@@ -11,7 +11,7 @@ use geom::IRect;
 use items::part_at;
 use items::reaches::need;
 use items::reaches::reach;
-use items::read_rect;
+use items::rect_of;
 use redraw::Room;
 use sheet::byte_at;
 use sheet::check_sheet;
@@ -57,7 +57,7 @@ fn reach_of(b: &[u8]) -> IRect
     if byte_at(b, 0) != 3 {
         return reach(b);
     }
-    fill_reach(read_rect(b, 4))
+    fill_reach(rect_of(b))
 }
 
 // The items of an accepted sheet, one after the other.

@@ -11,8 +11,8 @@ use Rattle.clips.proofs.state_after.Tie as tie
 byte-at-requires : tie.Need-byte-at-requires
 byte-at-requires c κs = tt
 
-read-rect-requires : tie.Need-read-rect-requires
-read-rect-requires c κs = omega arith
+rect-of-requires : tie.Need-rect-of-requires
+rect-of-requires c κs = tt
 
 push-clip-requires : tie.Need-push-clip-requires
 push-clip-requires c κs = tt
@@ -24,7 +24,7 @@ returns : tie.Need-returns
 unfolding readItem stateAfter
 returns c =
     simp (sym (c .before .before .before .before .byte-at .ensures) ∙ c .before .before .before .match .keys1)
-    (ap (λ (d : Done). d .canvas) (c .before .push-clip .ensures) ∙ rw (c .before .before .read-rect .ensures))
+    (ap (λ (d : Done). d .canvas) (c .before .push-clip .ensures) ∙ rw (c .before .before .rect-of .ensures))
 
 returns-2 : tie.Need-returns-2
 unfolding readItem stateAfter
@@ -49,7 +49,7 @@ state-after-spec =
     tie.close
     (tie.spec
     byte-at-requires
-    read-rect-requires
+    rect-of-requires
     push-clip-requires
     pop-clip-requires
     returns

@@ -15,8 +15,8 @@ reach-requires c κs = tt
 returns : tie.Need-returns
 returns c = c .reach .ensures
 
-read-rect-requires : tie.Need-read-rect-requires
-read-rect-requires c κs = omega arith
+rect-of-requires : tie.Need-rect-of-requires
+rect-of-requires c κs = tt
 
 fill-reach-requires : tie.Need-fill-reach-requires
 fill-reach-requires c κs = tt
@@ -24,8 +24,8 @@ fill-reach-requires c κs = tt
 returns-2 : tie.Need-returns-2
 unfolding readItem reachOf
 returns-2 c =
-    simp (sym (c .before .before .before .byte-at .ensures) ∙ c .before .before .if1 .left) (c .fill-reach .ensures ∙ rw (c .before .read-rect .ensures))
+    simp (sym (c .before .before .before .byte-at .ensures) ∙ c .before .before .if1 .left) (c .fill-reach .ensures ∙ rw (c .before .rect-of .ensures))
 
 pub reach-of-spec : {M : Type 1} → statement M
 reach-of-spec =
-    tie.close (tie.spec byte-at-requires reach-requires returns read-rect-requires fill-reach-requires returns-2)
+    tie.close (tie.spec byte-at-requires reach-requires returns rect-of-requires fill-reach-requires returns-2)
