@@ -69,16 +69,27 @@ fn color_color(f: u32, a: u32, b: u32, c: u32) -> Color {
     }
 }
 
-fn color_blend(dst: u32, r: u32, g: u32, b: u32, a: u32) -> u64 {
-    let p = color::blend(dst, r, g, b, a);
-    pair(p.value, p.number)
+// A number, and 256 more where a blend altered the pixel's value.
+fn noted(number: u32, altered: bool) -> u32 {
+    let more = if altered { 256 } else { 0 };
+    std::num::wrapping_add_u32(number, more)
 }
 
-// The low word of an answer is a pixel, a colour or a float's pattern, the high word a refusal's number.
+fn color_blend(dst: u32, r: u32, g: u32, b: u32, a: u32) -> u64 {
+    let p = color::blend(dst, r, g, b, a);
+    pair(p.value, noted(p.number, p.altered))
+}
+
+fn color_blend_c(dst: u32, c: Color, cov: u32) -> u64 {
+    let q = color::blend_c(dst, c, cov);
+    pair(q.value, noted(0, q.altered))
+}
+
+// The low word of an answer is a pixel, a colour or a float's pattern, the high word a refusal's number, and what a blend notes.
 fn color_answer(f: u32, a: u32, b: u32, c: u32, d: u32, e: u32) -> u64 {
     match f {
         1 => color_blend(a, b, c, d, e),
-        2 => color::blend_c(a, color_of(b), c) as u64,
+        2 => color_blend_c(a, color_of(b), c),
         11 => color_of(a).pix() as u64,
         12 => pattern(color_of(a).luma()) as u64,
         13 => color::mix_pix(a, b, c) as u64,

@@ -1,4 +1,5 @@
 -- The paper's starred examples of blending, over the definitions: each side computes. Assumes nothing.
+use mathlib.Core.Bool.{false}
 use mathlib.Core.Path.{_≡_, refl}
 use Prim.Native.Nat.{ℕ}
 use Rattle.color.specs.Inks.{blended, coveredBy, over, overC, blendOf}
@@ -28,7 +29,7 @@ unfolding blended
 alpha-1 = refl
 
 -- r = 256 is refused, at alpha 0 too
-pub red-256 : (old a : ℕ) → blendOf old 256 0 0 a ≡ record { number = 11; value = 0 }
+pub red-256 : (old a : ℕ) → blendOf old 256 0 0 a ≡ record { number = 11; value = 0; altered = false }
 unfolding blendOf
 red-256 old a = refl
 

@@ -1,9 +1,10 @@
 -- Source over, by whole numbers. A pixel is 0x00RRGGBB. Assumes nothing.
 use Prim.Native.Nat.{ℕ, _+_, _-_, _*_, _/_, _%_}
-use mathlib.Core.Bool.{Bool, cond, _&&_}
+use mathlib.Core.Bool.{Bool, false, cond, not, _&&_}
 use lib.Dec.{leb, eqb}
 use Rattle.color.specs.declared.Color.{Color}
-use Rattle.color.specs.declared.Pixel.{Pixel}
+use Rattle.color.specs.declared.Inked.{Inked}
+use Rattle.color.specs.declared.BlendAnswer.{BlendAnswer}
 
 -- the three channels of a pixel, and the pixel of three channels
 abbrev pub red : ℕ → ℕ
@@ -40,12 +41,18 @@ over p c a = blended p (c .r) (c .g) (c .b) a
 abbrev pub overC : ℕ → Color → ℕ → ℕ
 overC p c cov = over p c (coveredBy (c .a) cov)
 
--- The public call: an ink over 255 is refused by 11, whatever the alpha, and 0 is returned beside it.
+-- a pixel's new value, and whether it differs from the old one
+abbrev pub inkedOf : ℕ → ℕ → Inked
+inkedOf old v = record { value = v; altered = not (eqb v old) }
+
+-- The public call: an ink over 255 is refused by 11, whatever the alpha; 0 is returned beside it, and nothing is altered.
 abbrev pub inksOk : ℕ → ℕ → ℕ → Bool
 inksOk r g b = leb r 255 && leb g 255 && leb b 255
 
 abbrev pub blendNumber : ℕ → ℕ → ℕ → ℕ
 blendNumber r g b = cond (inksOk r g b) 0 11
 
-unfoldable pub blendOf : ℕ → ℕ → ℕ → ℕ → ℕ → Pixel
-blendOf old r g b a = record { number = blendNumber r g b; value = cond (inksOk r g b) (blended old r g b a) 0 }
+unfoldable pub blendOf : ℕ → ℕ → ℕ → ℕ → ℕ → BlendAnswer
+blendOf old r g b a =
+    let v = blended old r g b a in
+    record { number = blendNumber r g b; value = cond (inksOk r g b) v 0; altered = cond (inksOk r g b) (not (eqb v old)) false }

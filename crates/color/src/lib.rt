@@ -14,6 +14,7 @@ pub use crate::blending::blend_c;
 pub use crate::blending::blend_c_wide;
 pub use crate::blending::over;
 pub use crate::blending::over_wide;
+pub use crate::blending::put;
 pub use crate::hues::hsv;
 pub use crate::mixing::mix_pix;
 
@@ -31,6 +32,20 @@ pub struct Color {
 pub struct Pixel {
     pub number: u32,
     pub value: u32,
+}
+
+// The new value of a pixel, and whether it differs from the old one.
+pub struct Inked {
+    pub value: u32,
+    pub altered: bool,
+}
+
+// The same, beside the number of a call.
+#[repr(C)]
+pub struct BlendAnswer {
+    pub number: u32,
+    pub value: u32,
+    pub altered: bool,
 }
 
 impl Color {

@@ -1,4 +1,5 @@
 -- The laws of drawing that belong to no one function.
+pub mod Counts
 pub mod Onto
 pub mod Rows
 pub mod Loops

@@ -3,9 +3,11 @@
 --     onto-none, onto-one        no place; one place, which a store fills
 --     onto-join                  a set and then another, of which neither holds a place of the other
 --     onto-same                  another function that agrees there
+--     onto-count                 how many places a set and then another alter
 -- Assumes nothing.
 use mathlib.Core.Path.{_≡_, refl, sym, ap, _∙_}
 use mathlib.Core.List.{List, [], _∷_}
+use mathlib.Core.Logic.{_⊎_, inl, inr}
 use mathlib.Core.Bool.{Bool, true, false, cond, _&&_, _||_}
 use Prim.Native.Nat.{ℕ, zero, suc, _+_, _<_}
 use native.Mathlib.Nat.{not-suc-le-zero, le-of-suc-le-suc, add-zero, zero-add, add-suc, suc-add}
@@ -14,7 +16,8 @@ use lib.Dec.{eqb}
 use lib.ListN.{length, getD, set, length-set}
 use lib.Seq.{ext-getD, getD-set-same, getD-set-other}
 use borrow.Author.Tests.{eqb-true, eqb-false}
-use Rattle.draw.specs.Draw.{eachAt, onto}
+use Rattle.draw.specs.Draw.{eachAt, onto, differ}
+use Rattle.draw.proofs.Counts.{differ-join}
 
 length-eachAt : (f : ℕ → ℕ → ℕ) (i : ℕ) (px : List ℕ) → length (eachAt f i px) ≡ length px
 unfolding eachAt
@@ -77,6 +80,19 @@ onto-join s t u f px d e =
     at g p true false q = refl
     at g p false true q = refl
     at g p false false q = refl
+
+-- the places of t after those of s, where no place is in both: the counts add up
+pub onto-count : (s t : ℕ → Bool) (f g : ℕ → ℕ → ℕ) (px : List ℕ) → ((k : ℕ) → (s k && t k) ≡ false)
+    → differ px (onto t g (onto s f px)) ≡ differ px (onto s f px) + differ (onto s f px) (onto t g (onto s f px))
+onto-count s t f g px d =
+    differ-join px (onto s f px) (onto t g (onto s f px)) (length-onto s f px) (length-onto t g (onto s f px) ∙ length-onto s f px)
+    (λ k l. at k l (s k) (t k) refl refl (d k))
+  where
+    at : (k : ℕ) → k < length px → (a b : Bool) → s k ≡ a → t k ≡ b → (a && b) ≡ false
+        → (getD (onto s f px) k 0 ≡ getD px k 0) ⊎ (getD (onto t g (onto s f px)) k 0 ≡ getD (onto s f px) k 0)
+    at k l false b p q z = inl (getD-onto s f px k l ∙ rw p)
+    at k l true true p q z = let z′ : _≡_ {A = ℕ} 0 1 = cc in absurd (omega arith)
+    at k l true false p q z = inr (getD-onto t g (onto s f px) k (omega (arith, length-onto s f px)) ∙ rw q)
 
 -- a function that leaves every pixel
 pub onto-idle : (s : ℕ → Bool) (px : List ℕ) → px ≡ onto s (λ i p. p) px

@@ -1,11 +1,15 @@
 -- Parts drawn one after the other are one shape.
 --     reach-smallest   their reach is the smallest box around theirs
 --     all-drawn        parts drawn under a clip, as the drawing of their reach and ink
+--     one-drawn        one part alone, and its steps (one-alters)
+--     alters-none      parts that take no step that alters leave every pixel
+--     alters-most      no more steps than parts times pixels
 -- Assumes nothing.
 use mathlib.Core.Path.{_≡_, refl, sym, ap, _∙_}
 use mathlib.Core.Bool.{Bool, true, false, cond, _&&_}
 use mathlib.Core.List.{List, [], _∷_}
-use Prim.Native.Nat.{ℕ, _/_, _%_, _<_}
+use Prim.Native.Nat.{ℕ, _+_, _*_, _/_, _%_, _<_, _≤_}
+use native.Mathlib.Nat.{add-zero}
 use native.Mathlib.Omega.{arith}
 use lib.IntN.{pos}
 use lib.ListN.{length, getD}
@@ -14,8 +18,9 @@ use Rattle.geom.specs.declared.IRect.{IRect}
 use Rattle.geom.specs.Box.{inside, joinAll, Holds, SmallestAll}
 use Rattle.geom.proofs.Bools.{same-test}
 use Rattle.geom.proofs.Boxes.{join-left, join-right, join-smallest}
-use Rattle.draw.specs.Draw.{meets, drawn}
-use Rattle.draw.specs.Parts.{Part, reachAll, inkAll, drawnAll}
+use Rattle.draw.specs.Draw.{meets, drawn, differ}
+use Rattle.draw.specs.Parts.{Part, reachAll, inkAll, drawnAll, altersAll}
+use Rattle.draw.proofs.Counts.{differ-none, differ-most}
 use Rattle.draw.proofs.Clips.{length-shape, shape-at}
 
 pub reach-smallest : (l : List Part) → SmallestAll (λ (a : Part). a .reach) l (reachAll l)
@@ -89,3 +94,29 @@ module _ (pitch : ℕ) (clip : IRect) where
       ext-getD 0 _ _ (length-all l px ∙ sym (length-shape pitch clip (reachAll l) (inkAll l) px))
       (λ k h. let h′ : k < length px = omega (arith, length-all l px) in
       all-at l px k h′ ∙ under-all (k % pitch) (k / pitch) clip l (getD px k 0) ∙ sym (shape-at pitch clip (reachAll l) (inkAll l) px k h′))
+
+  -- ---- steps
+
+  pub one-drawn : (a : Part) (px : List ℕ) → drawnAll pitch clip (a ∷ []) px ≡ drawn pitch clip (a .reach) (a .ink) px
+  unfolding drawnAll
+  one-drawn a px = refl
+
+  pub one-alters : (a : Part) (px : List ℕ) → altersAll pitch clip (a ∷ []) px ≡ differ px (drawn pitch clip (a .reach) (a .ink) px)
+  unfolding altersAll
+  one-alters a px = add-zero _
+
+  pub alters-none : (l : List Part) (px : List ℕ) → altersAll pitch clip l px ≡ 0 → drawnAll pitch clip l px ≡ px
+  unfolding altersAll drawnAll
+  alters-none [] px e = refl
+  alters-none (a ∷ l) px e =
+      let here : drawn pitch clip (a .reach) (a .ink) px ≡ px = differ-none px _ (length-shape pitch clip (a .reach) (a .ink) px) (omega arith) in
+      alters-none l (drawn pitch clip (a .reach) (a .ink) px) (omega arith) ∙ here
+
+  pub alters-most : (l : List Part) (px : List ℕ) → altersAll pitch clip l px ≤ length l * length px
+  unfolding altersAll
+  alters-most [] px = omega arith
+  alters-most (a ∷ l) px =
+      let next = drawn pitch clip (a .reach) (a .ink) px in
+      let rest : altersAll pitch clip l next ≤ length l * length px = rw (length-shape pitch clip (a .reach) (a .ink) px) at (alters-most l next) in
+      let here = differ-most px next in
+      omega (arith, rest, here)

@@ -4,6 +4,7 @@
 --     row-more                  one store more in a row
 --     row-join                  a part of a row after the part on its left
 --     rows-join                 rows after the rows above them
+--     row-count, rows-count     how many pixels two such parts alter
 --     drawn-same, row-same      another pixel function, which agrees in the box
 --     drawn-at                  a pixel of what is drawn
 -- Assumes nothing.
@@ -19,8 +20,9 @@ use lib.Dec.{leb, ltb, eqb}
 use lib.ListN.{length, getD, set}
 use borrow.Author.Tests.{ltb-true, ltb-false, leb-true, eqb-true, eqb-false, lt-ltb, le-ltb, le-leb, lt-leb, eq-eqb, ne-eqb}
 use Rattle.draw.specs.declared.Area.{Area}
+use Rattle.draw.specs.Draw.{differ}
 use Rattle.draw.specs.Areas.{within, inArea, drawnIn, area}
-use Rattle.draw.proofs.Onto.{length-onto, getD-onto, onto-none, onto-idle, onto-one, onto-same, onto-join}
+use Rattle.draw.proofs.Onto.{length-onto, getD-onto, onto-none, onto-idle, onto-one, onto-same, onto-join, onto-count}
 
 -- ---- within
 
@@ -174,6 +176,21 @@ module _ (pitch : ℕ) (f : ℕ → ℕ → ℕ → ℕ) (px : List ℕ) where
       onto-join _ _ _ (λ i p. f (i % pitch) (i / pitch) p) px
       (λ k. apart-right (within y0 m (k / pitch)) (within m y1 (k / pitch)) (within x0 x1 (k % pitch)) (within-apart y0 m y1 l h (k / pitch)))
       (λ k. both-right (within y0 m (k / pitch)) (within m y1 (k / pitch)) (within x0 x1 (k % pitch)) ∙ rw (within-both y0 m y1 l h (k / pitch)))
+
+  -- of two such parts the counts add up
+  pub row-count : (x0 m x1 y0 y1 : ℕ) → x0 ≤ m → m ≤ x1 → let half = drawnIn pitch (area x0 y0 m y1) f px in
+      differ px (drawnIn pitch (area m y0 x1 y1) f half) ≡ differ px half + differ half (drawnIn pitch (area m y0 x1 y1) f half)
+  unfolding drawnIn
+  row-count x0 m x1 y0 y1 l h =
+      onto-count _ _ (λ i p. f (i % pitch) (i / pitch) p) (λ i p. f (i % pitch) (i / pitch) p) px
+      (λ k. apart-left (within x0 m (k % pitch)) (within m x1 (k % pitch)) (within y0 y1 (k / pitch)) (within-apart x0 m x1 l h (k % pitch)))
+
+  pub rows-count : (x0 x1 y0 m y1 : ℕ) → y0 ≤ m → m ≤ y1 → let half = drawnIn pitch (area x0 y0 x1 m) f px in
+      differ px (drawnIn pitch (area x0 m x1 y1) f half) ≡ differ px half + differ half (drawnIn pitch (area x0 m x1 y1) f half)
+  unfolding drawnIn
+  rows-count x0 x1 y0 m y1 l h =
+      onto-count _ _ (λ i p. f (i % pitch) (i / pitch) p) (λ i p. f (i % pitch) (i / pitch) p) px
+      (λ k. apart-right (within y0 m (k / pitch)) (within m y1 (k / pitch)) (within x0 x1 (k % pitch)) (within-apart y0 m y1 l h (k / pitch)))
 
   -- the store of one pixel
   pub cell : (x y : ℕ) → x < pitch → y * pitch + x < length px → set px (y * pitch + x) (f x y (getD px (y * pitch + x) 0)) ≡ drawnIn pitch (area x y (x + 1) (y + 1)) f px

@@ -1,13 +1,14 @@
 -- Boxes of pixels within the canvas, as loops go through them: columns x0 up to x1 and rows y0 up to y1, all natural numbers.
 use mathlib.Core.Bool.{Bool, cond, _&&_}
 use mathlib.Core.List.{List}
-use Prim.Native.Nat.{ℕ, _+_, _*_, _/_, _%_, _≤_}
+use mathlib.Core.Path.{_≡_}
+use Prim.Native.Nat.{ℕ, _+_, _-_, _*_, _/_, _%_, _≤_}
 use lib.Dec.{leb, ltb}
 use Rattle.geom.specs.declared.IRect.{IRect}
 use Rattle.geom.specs.Int.{up}
 use Rattle.geom.specs.Box.{meet, empty}
 use Rattle.draw.specs.declared.Area.{Area}
-use Rattle.draw.specs.Draw.{onto}
+use Rattle.draw.specs.Draw.{onto, differ}
 
 -- lo ≤ x < hi
 unfoldable pub within : ℕ → ℕ → ℕ → Bool
@@ -48,3 +49,17 @@ pub record AreaFits (pitch : ℕ) (b : Area) (n : ℕ) : Type 0 where
   pub bottom : b .y1 * pitch ≤ n
   pub wide : b .x1 ≤ 2048
   pub high : b .y1 ≤ 2048
+
+-- what a function that draws promises: px as it is to be left, and the count n of its words that were altered, at most `most`
+pub record Drew (most : ℕ) (px drawn : List ℕ) (n : ℕ) (px′ : List ℕ) : Type 0 where
+  pub paints : px′ ≡ drawn
+  pub counts : n ≡ differ px px′
+  pub few : n ≤ most
+
+-- the columns x0 up to x1 of row y are drawn
+abbrev pub DrewRow : ℕ → ℕ → ℕ → ℕ → (ℕ → ℕ → ℕ → ℕ) → List ℕ → ℕ → List ℕ → Type 0
+DrewRow pitch y x0 x1 ink px n px′ = Drew (x1 - x0) px (drawnIn pitch (area x0 y x1 (y + 1)) ink px) n px′
+
+-- an area is drawn
+abbrev pub DrewIn : ℕ → Area → (ℕ → ℕ → ℕ → ℕ) → List ℕ → ℕ → List ℕ → Type 0
+DrewIn pitch b ink px n px′ = Drew 4194304 px (drawnIn pitch b ink px) n px′

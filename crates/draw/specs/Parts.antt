@@ -1,11 +1,11 @@
 -- A shape that is drawn in parts, one after the other, as a polyline is in its lines. Each part has a reach and an ink, and so has the whole.
 use mathlib.Core.Bool.{cond}
 use mathlib.Core.List.{List, [], _∷_}
-use Prim.Native.Nat.{ℕ}
+use Prim.Native.Nat.{ℕ, _+_}
 use lib.IntN.{pos}
 use Rattle.geom.specs.declared.IRect.{IRect}
 use Rattle.geom.specs.Box.{inside, joinAll}
-use Rattle.draw.specs.Draw.{drawn}
+use Rattle.draw.specs.Draw.{drawn, differ}
 
 pub record Part : Type 0 where
   pub reach : IRect
@@ -27,3 +27,10 @@ inkAll (a ∷ l) x y p = inkAll l x y (cond (inside (a .reach) (pos x) (pos y)) 
 unfoldable pub drawnAll : ℕ → IRect → List Part → List ℕ → List ℕ
 drawnAll pitch clip [] px = px
 drawnAll pitch clip (a ∷ l) px = drawnAll pitch clip l (drawn pitch clip (a .reach) (a .ink) px)
+
+-- how many of their steps, one a part at each pixel, alter its value
+unfoldable pub altersAll : ℕ → IRect → List Part → List ℕ → ℕ
+altersAll pitch clip [] px = 0
+altersAll pitch clip (a ∷ l) px =
+    let next = drawn pitch clip (a .reach) (a .ink) px in
+    differ px next + altersAll pitch clip l next

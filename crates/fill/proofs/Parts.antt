@@ -17,10 +17,10 @@ use Rattle.geom.proofs.Bools.{same-test}
 use Rattle.color.specs.declared.Color.{Color}
 use Rattle.color.specs.Colours.{pixOf}
 use Rattle.color.proofs.Overs.{over-none, over-full}
-use Rattle.draw.specs.Areas.{within, area, drawnIn}
+use Rattle.draw.specs.Areas.{within, area, DrewRow}
 use Rattle.draw.proofs.Rows.{within-in, within-below, within-above, within-none, within-true, drawn-idle, row-same}
 use Rattle.draw.proofs.Clips.{in-columns}
-use Rattle.draw.proofs.Loops.{row-three}
+use Rattle.draw.proofs.Loops.{row-three, drew-as, drew-none}
 use Rattle.paints.specs.declared.Paint.{Paint}
 use Rattle.paints.specs.declared.Paint.the-variants.{Solid}
 use Rattle.paints.specs.Paints.{paintAt, centreOf}
@@ -65,11 +65,11 @@ module _ (rect : Rect) (r : Float) (y x0 x1 : ℕ) where
   unfolding roundInk
   inside paint x p e = rw e
 
-  pub parts-drawn : (paint : Paint) (c : Ends) (pitch : ℕ) (px px₁ px₂ px₃ : List ℕ) → Cuts rect r y x0 x1 c
-      → px₁ ≡ drawnIn pitch (area x0 y (c .le) (y + 1)) (rimInk rect r paint) px
-      → px₂ ≡ drawnIn pitch (area (c .le) y (c .rs) (y + 1)) (middleInk paint) px₁
-      → px₃ ≡ drawnIn pitch (area (c .rs) y x1 (y + 1)) (rimInk rect r paint) px₂
-      → px₃ ≡ drawnIn pitch (area x0 y x1 (y + 1)) (roundInk rect r paint) px
+  pub parts-drawn : (paint : Paint) (c : Ends) (pitch : ℕ) (px px₁ px₂ px₃ : List ℕ) {n₁ n₂ n₃ : ℕ} → Cuts rect r y x0 x1 c
+      → DrewRow pitch y x0 (c .le) (rimInk rect r paint) px n₁ px₁
+      → DrewRow pitch y (c .le) (c .rs) (middleInk paint) px₁ n₂ px₂
+      → DrewRow pitch y (c .rs) x1 (rimInk rect r paint) px₂ n₃ px₃
+      → DrewRow pitch y x0 x1 (roundInk rect r paint) px (n₁ + n₂ + n₃) px₃
   parts-drawn paint c pitch px px₁ px₂ px₃ k d₁ d₂ d₃ =
       row-three pitch (roundInk rect r paint) (rimInk rect r paint) (middleInk paint) (rimInk rect r paint) y x0 (c .le) (c .rs) x1 px px₁ px₂ px₃
       (k .left) (k .order) (k .right) d₁ d₂ d₃
@@ -86,13 +86,14 @@ same-paint rect r y here paint e x p = rw (e (centreOf x))
 -- ---- the middle under one colour
 
 module _ (c : Color) (pitch y x0 x1 : ℕ) (px : List ℕ) where
-  pub plain-drawn : (qx : List ℕ) → 255 ≤ c .a → qx ≡ drawnIn pitch (area x0 y x1 (y + 1)) (λ _ _ _. pixOf c) px
-      → qx ≡ drawnIn pitch (area x0 y x1 (y + 1)) (middleInk (Solid c)) px
+  pub plain-drawn : (qx : List ℕ) {n : ℕ} → 255 ≤ c .a → DrewRow pitch y x0 x1 (λ _ _ _. pixOf c) px n qx
+      → DrewRow pitch y x0 x1 (middleInk (Solid c)) px n qx
   unfolding middleInk paintAt
-  plain-drawn qx e d = d ∙ row-same pitch _ (middleInk (Solid c)) px x0 x1 y (λ x p l h. sym (over-full p c (c .a) e))
+  plain-drawn qx e d = drew-as d (row-same pitch _ (middleInk (Solid c)) px x0 x1 y (λ x p l h. sym (over-full p c (c .a) e)))
 
-  pub clear-drawn : c .a ≡ 0 → px ≡ drawnIn pitch (area x0 y x1 (y + 1)) (middleInk (Solid c)) px
+  pub clear-drawn : c .a ≡ 0 → DrewRow pitch y x0 x1 (middleInk (Solid c)) px 0 px
   unfolding middleInk paintAt
   clear-drawn e =
-      drawn-idle pitch (middleInk (Solid c)) px (area x0 y x1 (y + 1))
-      ∙ row-same pitch _ (middleInk (Solid c)) px x0 x1 y (λ x p l h. rw e (sym (over-none p c)))
+      drew-none
+      (drawn-idle pitch (middleInk (Solid c)) px (area x0 y x1 (y + 1))
+      ∙ row-same pitch _ (middleInk (Solid c)) px x0 x1 y (λ x p l h. rw e (sym (over-none p c))))

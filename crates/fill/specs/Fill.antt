@@ -16,9 +16,9 @@ use Rattle.geom.specs.Plane.{rightOf, bottomOf, cxOf, cyOf, noArea, outerOf, fl
 use Rattle.color.specs.Inks.{over, overC}
 use Rattle.draw.specs.Draw.{drawn, inColumns}
 use Rattle.gfx.specs.declared.Canvas.{Canvas}
-use Rattle.gfx.specs.declared.Done.{Done}
+use Rattle.gfx.specs.declared.Counted.{Counted}
 use Rattle.paints.specs.declared.Paint.{Paint}
-use Rattle.gfx.specs.Calls.{Called, shapeNumber}
+use Rattle.gfx.specs.Calls.{ShapeCalled, shapeNumber}
 use Rattle.paints.specs.Paints.{paintAt, paintOk, centreOf, radiusOf, rrectSd, cov8Of}
 
 -- the pixels around the rectangle; none where it has no width or no height, as the method then returns before it meets the clip
@@ -73,9 +73,9 @@ fillInk rect r paint = roundInk rect (radiusOf rect r) paint
 
 -- what a fill promises, by whether the floats given are within the limit: of the canvas, the rectangle, its radius and its paint, px as
 -- it came, the answer, and px as it is left
-abbrev pub Filled : Canvas → Bool → Rect → Float → Paint → List ℕ → Done → List ℕ → Type 0
+abbrev pub Filled : Canvas → Bool → Rect → Float → Paint → List ℕ → Counted → List ℕ → Type 0
 Filled canvas ok rect r paint px =
-    Called (shapeNumber canvas (length px) ok) canvas canvas px (drawn (up (canvas .w)) (canvas .clip) (fillReach rect) (fillInk rect r paint) px)
+    ShapeCalled (shapeNumber canvas (length px) ok) canvas px (drawn (up (canvas .w)) (canvas .clip) (fillReach rect) (fillInk rect r paint) px)
 
 -- the limit reads the numbers given to each call
 abbrev pub rrectFloats : Rect → Float → Paint → Bool

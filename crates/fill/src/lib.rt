@@ -2,6 +2,7 @@
 use color::Color;
 use color::blend_c;
 use color::over;
+use color::put;
 use draw::Area;
 use draw::clipped;
 use geom::IRect;
@@ -10,7 +11,7 @@ use geom::Rect;
 use geom::float_ok;
 use geom::nat_of;
 use gfx::Canvas;
-use gfx::Done;
+use gfx::Counted;
 use paints::Edge;
 use paints::Paint;
 use paints::along_line;
@@ -25,8 +26,10 @@ ghost use lib.ListN.{length};
 ghost use Rattle.mathf.specs.F32.{f0};
 ghost use Rattle.mathf.specs.Convert.{toI32};
 ghost use Rattle.geom.specs.Int.{up};
+ghost use Rattle.color.specs.Colours.{pixOf};
 ghost use Rattle.draw.specs.Draw.{drawn};
-ghost use Rattle.draw.specs.Areas.{area, drawnIn, clipTo, RowFits, AreaFits};
+ghost use Rattle.draw.specs.Areas.{RowFits, AreaFits, DrewRow, DrewIn};
+ghost use Rattle.gfx.specs.Calls.{ShapeCalled, pxNumber};
 ghost use Rattle.paints.specs.declared.Paint.the-variants.{Solid, Linear};
 ghost use Rattle.paints.specs.Paints.{paintAt, centreOf};
 ghost use Rattle.paints.specs.Edges.{Sure};
@@ -202,12 +205,13 @@ fn rim(
     e: Edge,
     l: Level,
     paint: Paint,
-)
+) -> u32
     requires { ⌜ RowFits w y x0 x1 (length (now px)) × Sure (e .r) e × LevelOf rect (e .r) (centreOf y) l ⌝ }
-    ensures { λ _. ⌜ now (px .exit) ≡ drawnIn w (area x0 y x1 (y + 1)) (rimInk rect (e .r) paint) (now (px .entry)) ⌝ }
+    ensures { λ n. ⌜ DrewRow w y x0 x1 (rimInk rect (e .r) paint) (now (px .entry)) n (now (px .exit)) ⌝ }
 {
     let row = y * w;
     let yc = centre(y as u16);
+    let mut n = 0;
     for x in x0..x1 {
         let xc = centre(x as u16);
         let cv = level_cover(rect, e, l, xc);
@@ -216,32 +220,44 @@ fn rim(
         }
         let c = colour_at(paint, xc, yc);
         let i = row + x;
-        px[i] = blend_c(px[i], c, cv);
+        let q = blend_c(px[i], c, cv);
+        px[i] = q.value;
+        n += q.altered as u32;
     }
+    n
 }
 
 // Columns of row y set to one value.
-fn store_span(px: &mut [u32], w: usize, y: usize, x0: usize, x1: usize, v: u32)
+fn store_span(px: &mut [u32], w: usize, y: usize, x0: usize, x1: usize, v: u32) -> u32
     requires { ⌜ RowFits w y x0 x1 (length (now px)) ⌝ }
-    ensures { λ _. ⌜ now (px .exit) ≡ drawnIn w (area x0 y x1 (y + 1)) (λ _ _ _. v) (now (px .entry)) ⌝ }
+    ensures { λ n. ⌜ DrewRow w y x0 x1 (λ _ _ _. v) (now (px .entry)) n (now (px .exit)) ⌝ }
 {
     let row = y * w;
+    let mut n = 0;
     for x in x0..x1 {
-        px[row + x] = v;
+        let i = row + x;
+        let q = put(px[i], v);
+        px[i] = q.value;
+        n += q.altered as u32;
     }
+    n
 }
 
 // Columns of row y under a colour.
-fn over_span(px: &mut [u32], w: usize, y: usize, x0: usize, x1: usize, c: Color)
+fn over_span(px: &mut [u32], w: usize, y: usize, x0: usize, x1: usize, c: Color) -> u32
     requires { ⌜ RowFits w y x0 x1 (length (now px)) ⌝ }
-    ensures { λ _. ⌜ now (px .exit) ≡ drawnIn w (area x0 y x1 (y + 1)) (middleInk (Solid c)) (now (px .entry)) ⌝ }
+    ensures { λ n. ⌜ DrewRow w y x0 x1 (middleInk (Solid c)) (now (px .entry)) n (now (px .exit)) ⌝ }
 {
     let row = y * w;
     let a = c.a as u32;
+    let mut n = 0;
     for x in x0..x1 {
         let i = row + x;
-        px[i] = over(px[i], c, a);
+        let q = over(px[i], c, a);
+        px[i] = q.value;
+        n += q.altered as u32;
     }
+    n
 }
 
 // Columns of row y under a linear gradient.
@@ -255,51 +271,59 @@ fn line_span(
     p1: Pt,
     c0: Color,
     c1: Color,
-)
+) -> u32
     requires { ⌜ RowFits w y x0 x1 (length (now px)) ⌝ }
-    ensures { λ _. ⌜ now (px .exit) ≡ drawnIn w (area x0 y x1 (y + 1)) (middleInk (Linear p0 p1 c0 c1)) (now (px .entry)) ⌝ }
+    ensures { λ n. ⌜ DrewRow w y x0 x1 (middleInk (Linear p0 p1 c0 c1)) (now (px .entry)) n (now (px .exit)) ⌝ }
 {
     let row = y * w;
     let yc = centre(y as u16);
+    let mut n = 0;
     for x in x0..x1 {
         let c = c0.mix(c1, along_line(p0, p1, centre(x as u16), yc));
         let i = row + x;
-        px[i] = over(px[i], c, c.a as u32);
+        let q = over(px[i], c, c.a as u32);
+        px[i] = q.value;
+        n += q.altered as u32;
     }
+    n
 }
 
 // Columns of row y under a paint, which is asked at each pixel.
-fn paint_span(px: &mut [u32], w: usize, y: usize, x0: usize, x1: usize, paint: Paint)
+fn paint_span(px: &mut [u32], w: usize, y: usize, x0: usize, x1: usize, paint: Paint) -> u32
     requires { ⌜ RowFits w y x0 x1 (length (now px)) ⌝ }
-    ensures { λ _. ⌜ now (px .exit) ≡ drawnIn w (area x0 y x1 (y + 1)) (middleInk paint) (now (px .entry)) ⌝ }
+    ensures { λ n. ⌜ DrewRow w y x0 x1 (middleInk paint) (now (px .entry)) n (now (px .exit)) ⌝ }
 {
     let row = y * w;
     let yc = centre(y as u16);
+    let mut n = 0;
     for x in x0..x1 {
         let c = paint.at(centre(x as u16), yc);
         let i = row + x;
-        px[i] = over(px[i], c, c.a as u32);
+        let q = over(px[i], c, c.a as u32);
+        px[i] = q.value;
+        n += q.altered as u32;
     }
+    n
 }
 
 // Columns of row y under a colour: plain stores at full alpha, nothing at alpha 0.
-fn solid_span(px: &mut [u32], w: usize, y: usize, x0: usize, x1: usize, c: Color)
+fn solid_span(px: &mut [u32], w: usize, y: usize, x0: usize, x1: usize, c: Color) -> u32
     requires { ⌜ RowFits w y x0 x1 (length (now px)) ⌝ }
-    ensures { λ _. ⌜ now (px .exit) ≡ drawnIn w (area x0 y x1 (y + 1)) (middleInk (Solid c)) (now (px .entry)) ⌝ }
+    ensures { λ n. ⌜ DrewRow w y x0 x1 (middleInk (Solid c)) (now (px .entry)) n (now (px .exit)) ⌝ }
 {
     if c.a == 255 {
-        store_span(px, w, y, x0, x1, c.pix());
-        return;
+        return store_span(px, w, y, x0, x1, c.pix());
     }
     if c.a > 0 {
-        over_span(px, w, y, x0, x1, c);
+        return over_span(px, w, y, x0, x1, c);
     }
+    0
 }
 
 // The middle of row y, by the kind of its paint.
-fn middle_span(px: &mut [u32], w: usize, y: usize, x0: usize, x1: usize, paint: Paint)
+fn middle_span(px: &mut [u32], w: usize, y: usize, x0: usize, x1: usize, paint: Paint) -> u32
     requires { ⌜ RowFits w y x0 x1 (length (now px)) ⌝ }
-    ensures { λ _. ⌜ now (px .exit) ≡ drawnIn w (area x0 y x1 (y + 1)) (middleInk paint) (now (px .entry)) ⌝ }
+    ensures { λ n. ⌜ DrewRow w y x0 x1 (middleInk paint) (now (px .entry)) n (now (px .exit)) ⌝ }
 {
     match paint {
         Paint::Solid(c) => solid_span(px, w, y, x0, x1, c),
@@ -309,9 +333,17 @@ fn middle_span(px: &mut [u32], w: usize, y: usize, x0: usize, x1: usize, paint: 
 }
 
 // Row y between the columns x0 and x1: rim, middle, rim.
-fn row_parts(px: &mut [u32], w: usize, y: usize, x0: usize, x1: usize, s: Round, paint: Paint)
+fn row_parts(
+    px: &mut [u32],
+    w: usize,
+    y: usize,
+    x0: usize,
+    x1: usize,
+    s: Round,
+    paint: Paint,
+) -> u32
     requires { ⌜ RowFits w y x0 x1 (length (now px)) × Ready s ⌝ }
-    ensures { λ _. ⌜ now (px .exit) ≡ drawnIn w (area x0 y x1 (y + 1)) (roundInk (s .rect) (s .edge .r) paint) (now (px .entry)) ⌝ }
+    ensures { λ n. ⌜ DrewRow w y x0 x1 (roundInk (s .rect) (s .edge .r) paint) (now (px .entry)) n (now (px .exit)) ⌝ }
 {
     let rect = s.rect;
     let e = s.edge;
@@ -319,69 +351,81 @@ fn row_parts(px: &mut [u32], w: usize, y: usize, x0: usize, x1: usize, s: Round,
     let l = level_of(rect, e.r, y);
     let lend = c.le;
     let rstart = c.rs;
-    rim(px, w, y, x0, lend, rect, e, l, paint);
-    middle_span(px, w, y, lend, rstart, paint);
-    rim(px, w, y, rstart, x1, rect, e, l, paint);
+    let left = rim(px, w, y, x0, lend, rect, e, l, paint);
+    let middle = middle_span(px, w, y, lend, rstart, paint);
+    let right = rim(px, w, y, rstart, x1, rect, e, l, paint);
+    left + middle + right
 }
 
 // The same by the paint as the row has it.
-fn fill_row(px: &mut [u32], w: usize, y: usize, x0: usize, x1: usize, s: Round, paint: Paint)
+fn fill_row(px: &mut [u32], w: usize, y: usize, x0: usize, x1: usize, s: Round, paint: Paint) -> u32
     requires { ⌜ RowFits w y x0 x1 (length (now px)) × Ready s ⌝ }
-    ensures { λ _. ⌜ now (px .exit) ≡ drawnIn w (area x0 y x1 (y + 1)) (roundInk (s .rect) (s .edge .r) paint) (now (px .entry)) ⌝ }
+    ensures { λ n. ⌜ DrewRow w y x0 x1 (roundInk (s .rect) (s .edge .r) paint) (now (px .entry)) n (now (px .exit)) ⌝ }
 {
     let here = paint.in_row(centre(y as u16));
-    row_parts(px, w, y, x0, x1, s, here);
+    row_parts(px, w, y, x0, x1, s, here)
 }
 
 // The rows of an area.
-fn fill_box(px: &mut [u32], w: usize, bb: Area, s: Round, paint: Paint)
+fn fill_box(px: &mut [u32], w: usize, bb: Area, s: Round, paint: Paint) -> u32
     requires { ⌜ AreaFits w bb (length (now px)) × Ready s ⌝ }
-    ensures { λ _. ⌜ now (px .exit) ≡ drawnIn w bb (roundInk (s .rect) (s .edge .r) paint) (now (px .entry)) ⌝ }
+    ensures { λ n. ⌜ DrewIn w bb (roundInk (s .rect) (s .edge .r) paint) (now (px .entry)) n (now (px .exit)) ⌝ }
 {
     let x0 = bb.x0;
     let x1 = bb.x1;
+    let mut n = 0;
     for y in bb.y0..bb.y1 {
-        fill_row(px, w, y, x0, x1, s, paint);
+        n += fill_row(px, w, y, x0, x1, s, paint);
     }
+    n
 }
 
 // An area of a rounded rectangle: what its rows share is worked out first.
-fn fill_all(px: &mut [u32], w: usize, bb: Area, rect: Rect, r: f32, paint: Paint)
+fn fill_all(px: &mut [u32], w: usize, bb: Area, rect: Rect, r: f32, paint: Paint) -> u32
     requires { ⌜ AreaFits w bb (length (now px)) ⌝ }
-    ensures { λ _. ⌜ now (px .exit) ≡ drawnIn w bb (fillInk rect r paint) (now (px .entry)) ⌝ }
+    ensures { λ n. ⌜ DrewIn w bb (fillInk rect r paint) (now (px .entry)) n (now (px .exit)) ⌝ }
 {
     let short = radius(rect, r);
     let s = round_of(rect, short);
-    fill_box(px, w, bb, s, paint);
+    fill_box(px, w, bb, s, paint)
 }
 
 // The same, where the area has rows.
-fn fill_area(px: &mut [u32], w: usize, bb: Area, rect: Rect, r: f32, paint: Paint)
+fn fill_area(px: &mut [u32], w: usize, bb: Area, rect: Rect, r: f32, paint: Paint) -> u32
     requires { ⌜ AreaFits w bb (length (now px)) ⌝ }
-    ensures { λ _. ⌜ now (px .exit) ≡ drawnIn w bb (fillInk rect r paint) (now (px .entry)) ⌝ }
+    ensures { λ n. ⌜ DrewIn w bb (fillInk rect r paint) (now (px .entry)) n (now (px .exit)) ⌝ }
 {
     if bb.y0 < bb.y1 {
-        fill_all(px, w, bb, rect, r, paint);
+        return fill_all(px, w, bb, rect, r, paint);
     }
+    0
 }
 
 // A rounded rectangle under the clip, unless the call is refused.
-fn filled(canvas: Canvas, px: &mut [u32], ok: bool, rect: Rect, r: f32, paint: Paint) -> Done
+fn filled(canvas: Canvas, px: &mut [u32], ok: bool, rect: Rect, r: f32, paint: Paint) -> Counted
     ensures { λ d. ⌜ Filled canvas ok rect r paint (now (px .entry)) d (now (px .exit)) ⌝ }
 {
     let number = canvas.shape_number(px.len(), ok);
     if number != 0 {
-        return Done { number, canvas };
+        return Counted {
+            number,
+            canvas,
+            steps: 0,
+        };
     }
     let w = nat_of(canvas.w);
     let clip = canvas.clip;
     let bb = clipped(fill_reach(rect), clip);
-    fill_area(px, w, bb, rect, r, paint);
-    Done { number, canvas }
+    let steps = fill_area(px, w, bb, rect, r, paint) as u64;
+    Counted {
+        number,
+        canvas,
+        steps,
+    }
 }
 
 // A rectangle with round corners.
-pub fn fill_rrect(canvas: Canvas, px: &mut [u32], rect: Rect, r: f32, paint: Paint) -> Done
+pub fn fill_rrect(canvas: Canvas, px: &mut [u32], rect: Rect, r: f32, paint: Paint) -> Counted
     ensures { λ d. ⌜ Filled canvas (rrectFloats rect r paint) rect r paint (now (px .entry)) d (now (px .exit)) ⌝ }
 {
     let ok = rect.in_range() & float_ok(r) & paint.in_range();
@@ -389,7 +433,7 @@ pub fn fill_rrect(canvas: Canvas, px: &mut [u32], rect: Rect, r: f32, paint: Pai
 }
 
 // A rectangle.
-pub fn fill_rect(canvas: Canvas, px: &mut [u32], rect: Rect, paint: Paint) -> Done
+pub fn fill_rect(canvas: Canvas, px: &mut [u32], rect: Rect, paint: Paint) -> Counted
     ensures { λ d. ⌜ Filled canvas (rectFloats rect paint) rect f0 paint (now (px .entry)) d (now (px .exit)) ⌝ }
 {
     let ok = rect.in_range() & paint.in_range();
@@ -397,10 +441,55 @@ pub fn fill_rect(canvas: Canvas, px: &mut [u32], rect: Rect, paint: Paint) -> Do
 }
 
 // A circle around cx and cy.
-pub fn fill_circle(canvas: Canvas, px: &mut [u32], cx: f32, cy: f32, r: f32, paint: Paint) -> Done
+pub fn fill_circle(
+    canvas: Canvas,
+    px: &mut [u32],
+    cx: f32,
+    cy: f32,
+    r: f32,
+    paint: Paint,
+) -> Counted
     ensures { λ d. ⌜ Filled canvas (circleFloats cx cy r paint) (circleRect cx cy r) r paint (now (px .entry)) d (now (px .exit)) ⌝ }
 {
     let ok = float_ok(cx) & float_ok(cy) & float_ok(r) & paint.in_range();
     let rect = Rect::new(cx - r, cy - r, r * 2.0, r * 2.0);
     filled(canvas, px, ok, rect, r, paint)
+}
+
+// The pixels of an area set to one value.
+fn store_box(px: &mut [u32], w: usize, bb: Area, v: u32) -> u32
+    requires { ⌜ AreaFits w bb (length (now px)) ⌝ }
+    ensures { λ n. ⌜ DrewIn w bb (λ _ _ _. v) (now (px .entry)) n (now (px .exit)) ⌝ }
+{
+    let x0 = bb.x0;
+    let x1 = bb.x1;
+    let mut n = 0;
+    for y in bb.y0..bb.y1 {
+        n += store_span(px, w, y, x0, x1, v);
+    }
+    n
+}
+
+// The pixels of the clip set to a colour, as a sheet's ground is, whatever its alpha.
+pub fn fill_ground(canvas: Canvas, px: &mut [u32], c: Color) -> Counted
+    ensures { λ d. ⌜ ShapeCalled (pxNumber canvas (length (now (px .entry)))) canvas (now (px .entry)) (drawn (up (canvas .w)) (canvas .clip) (canvas .clip) (λ _ _ _. pixOf c) (now (px .entry))) d (now (px .exit)) ⌝ }
+{
+    let number = canvas.px_number(px.len());
+    if number != 0 {
+        return Counted {
+            number,
+            canvas,
+            steps: 0,
+        };
+    }
+    let w = nat_of(canvas.w);
+    let clip = canvas.clip;
+    let bb = clipped(clip, clip);
+    let v = c.pix();
+    let steps = store_box(px, w, bb, v) as u64;
+    Counted {
+        number,
+        canvas,
+        steps,
+    }
 }

@@ -1,14 +1,16 @@
 -- What a call returns that tests its number and returns early: for its contract, by whether the number is 0. m is the number as the code has
 -- it, n its definition. Assumes nothing.
-use mathlib.Core.Path.{_≡_, refl}
+use mathlib.Core.Path.{_≡_, refl, ap, _∙_}
 use mathlib.Core.Bool.{Bool, true, false, cond}
 use mathlib.Core.List.{List}
 use Prim.Native.Nat.{ℕ}
 use lib.Dec.{eqb}
 use borrow.Author.Tests.{eq-eqb, ne-eqb}
-use Rattle.gfx.specs.Calls.{answer, left, Called, pixelAnswer}
+use Rattle.gfx.specs.Calls.{answer, left, Called, CalledCounted, ShapeCalled, pixelAnswer}
 use Rattle.gfx.specs.declared.Canvas.{Canvas}
 use Rattle.gfx.specs.declared.Done.{Done}
+use Rattle.draw.specs.Draw.{differ}
+use Rattle.draw.specs.Areas.{Drew}
 use Rattle.color.specs.declared.Pixel.{Pixel}
 pub use Rattle.geom.proofs.Refusals.{passed}
 
@@ -37,6 +39,11 @@ module _ {n m : ℕ} (e : m ≡ n) where
     unfolding left
     refused-call {given} {next} {px} {drawn} = record { answers = refused-state given next; paints = stays drawn px }
 
+    -- a refused shape call takes no step
+    pub refused-shape : {c : Canvas} {px drawn : List ℕ} {count : ℕ}
+        → CalledCounted n c px drawn count (record { number = m; canvas = c; steps = 0 }) px
+    refused-shape {c} {px} {drawn} {count} = record { called = refused-call; counts = stays count 0 }
+
   module _ (z : m ≡ 0) where
     -- what is next follows
     follows : {A : Type 0} (next given : A) → next ≡ cond (eqb n 0) next given
@@ -53,3 +60,12 @@ module _ {n m : ℕ} (e : m ≡ n) where
     pub accepted-call : {given next : Canvas} {px drawn : List ℕ} → Called n given next px drawn (record { number = m; canvas = next }) drawn
     unfolding left
     accepted-call {given} {next} {px} {drawn} = record { answers = accepted-state given next; paints = follows drawn px }
+
+    -- by what is drawn and what is counted; and of a shape that takes one step at each pixel
+    pub accepted-counted : {c : Canvas} {px drawn px′ : List ℕ} {count k : ℕ} → px′ ≡ drawn → k ≡ count
+        → CalledCounted n c px drawn count (record { number = m; canvas = c; steps = k }) px′
+    accepted-counted {c} {px} {drawn} {px′} {count} {k} p q = record { called = rw p accepted-call; counts = q ∙ follows count 0 }
+
+    pub accepted-shape : {c : Canvas} {px drawn px′ : List ℕ} {most k : ℕ} → Drew most px drawn k px′
+        → ShapeCalled n c px drawn (record { number = m; canvas = c; steps = k }) px′
+    accepted-shape {c} {px} {drawn} {px′} {most} {k} d = accepted-counted (d .paints) (d .counts ∙ ap (differ px) (d .paints))

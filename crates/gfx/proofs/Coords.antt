@@ -2,10 +2,12 @@
 use mathlib.Core.Path.{_≡_}
 use mathlib.Core.Bool.{Bool, true, _&&_}
 use mathlib.Core.List.{List}
-use Prim.Native.Nat.{ℕ, _+_, _<_, _≤_}
+use Prim.Native.Nat.{ℕ, _+_, _%_, _<_, _≤_}
 use native.Mathlib.Numerals.{add-one}
 use lib.Ieee.{Float}
+use lib.Dec.{eqb, leb}
 use lib.ListN.{length, getD, drop, drop-of-length-le}
+use borrow.Author.Tests.{leb-true}
 use lib.Seq.{drop-cons}
 use Rattle.geom.proofs.Bools.{and-left, and-right}
 use Rattle.geom.specs.Plane.{floatOk}
@@ -44,3 +46,8 @@ points-open c n pts others e =
     let p = passed (pointsOk pts) 12 _ (o .1) in
     let f = passed (coordsOk pts && others) 5 0 (p .1) .0 in
     record { canvas = o .0; points = p .0; coords = and-left _ _ f; floats = and-right (coordsOk pts) others f }
+
+-- points that are accepted have 128 coordinates at most
+pub points-few : (pts : List Float) → pointsOk pts ≡ true → length pts ≤ 128
+unfolding pointsOk
+points-few pts e = leb-true (length pts) 128 (and-right (eqb (length pts % 2) 0) (leb (length pts) 128) e)

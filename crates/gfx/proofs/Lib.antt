@@ -6,3 +6,4 @@ pub mod Sizes
 pub mod Coords
 pub mod Kept
 pub mod Fits
+pub mod Steps

@@ -35,6 +35,9 @@ open-of c n e =
     let k = passed (eqb n (areaOf (c .w) (c .h))) 7 0 (v .1) in
     record { valid = v .0; count = eqb-true _ _ (k .0) }
 
+pub open-small : {c : Canvas} {n : ℕ} → Open c n → n ≤ 4194304
+open-small {c} o = let v = valid-of c (o .valid) in rw (o .count) (area-small (c .w) (c .h) (v .side-w) (v .side-h))
+
 -- the pixel nearest to x and y is one of the canvas
 pub near-below : (n x : ℤ) → 0 < up n → nearestIn n x < up n
 unfolding nearestIn

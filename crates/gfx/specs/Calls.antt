@@ -18,6 +18,8 @@ use Rattle.gfx.specs.State.{sideOk, validOf, freshOf}
 use Rattle.gfx.specs.declared.Canvas.{Canvas}
 use Rattle.gfx.specs.declared.Done.{Done}
 use Rattle.gfx.specs.declared.Boxed.{Boxed}
+use Rattle.gfx.specs.declared.Counted.{Counted}
+use Rattle.draw.specs.Draw.{differ}
 
 -- ---- answers
 
@@ -40,6 +42,15 @@ pixelAnswer n v = record { number = n; value = cond (eqb n 0) v 0 }
 pub record Called (n : ℕ) (given next : Canvas) (px drawn : List ℕ) (r : Done) (px′ : List ℕ) : Type 0 where
   pub answers : r ≡ answer n given next
   pub paints : px′ ≡ left n px drawn
+
+-- what a shape call promises: besides, the count of its steps that altered a pixel's value, 0 where it is refused
+pub record CalledCounted (n : ℕ) (c : Canvas) (px drawn : List ℕ) (count : ℕ) (r : Counted) (px′ : List ℕ) : Type 0 where
+  pub called : Called n c c px drawn (record { number = r .number; canvas = r .canvas }) px′
+  pub counts : r .steps ≡ cond (eqb n 0) count 0
+
+-- a shape that takes one step at each pixel
+abbrev pub ShapeCalled : ℕ → Canvas → List ℕ → List ℕ → Counted → List ℕ → Type 0
+ShapeCalled n c px drawn = CalledCounted n c px drawn (differ px drawn)
 
 -- ---- sizes
 

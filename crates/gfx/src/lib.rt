@@ -44,6 +44,14 @@ pub struct Done {
     pub canvas: Canvas,
 }
 
+// What a shape call returns: besides, how many of its steps altered a pixel's value.
+#[repr(C)]
+pub struct Counted {
+    pub number: u32,
+    pub canvas: Canvas,
+    pub steps: u64,
+}
+
 // A box that a call returns, beside its number.
 #[repr(C)]
 pub struct Boxed {

@@ -1,22 +1,31 @@
--- The format is lawful: items that it calls the same are equal, and no reading is refused by 0. Assumes nothing.
-use Prim.Native.Nat.{ℕ, _≤_}
+-- The format is lawful: items that it calls the same are equal, no reading is refused by 0, and a shape's parts, drawn one after the other, are
+-- the shape. Assumes nothing.
+use Prim.Native.Nat.{ℕ, _/_, _%_, _≤_}
 use mathlib.Core.Path.{_≡_, refl, sym, ap, _∙_}
 use mathlib.Core.Bool.{Bool, true, false, cond, _&&_, false≢true}
 use mathlib.Core.List.{List, [], _∷_}
 use native.Mathlib.Omega.{arith}
-use lib.Dec.{eqb}
+use lib.Dec.{eqb, leb}
+use lib.Ieee.{Float}
 use lib.IntN.{ℤ, pos, negsuc}
 use borrow.Author.Tests.{eqb-true, eqb-false, eq-eqb}
 use Rattle.geom.proofs.Bools.{and-left, and-right, split}
 use Rattle.geom.specs.Int.{eqZ}
-use Rattle.geom.specs.Box.{boxOf}
+use Rattle.geom.specs.Box.{boxOf, noBox, inside}
 use Rattle.geom.specs.declared.IRect.{IRect}
+use Rattle.geom.proofs.Boxes.{in-noBox}
+use Rattle.color.specs.declared.Color.{Color}
+use Rattle.draw.specs.Draw.{meets, drawn}
+use Rattle.draw.specs.Parts.{reachAll, inkAll, drawnAll}
+use Rattle.draw.proofs.Onto.{onto-none}
+use Rattle.draw.proofs.Parts.{all-drawn, one-drawn}
+use Rattle.line.specs.Polylines.{chainOf}
 use Rattle.sheet.specs.Check.{sheetCheck}
 use Rattle.redraw.specs.Drawing as drawing
 use Rattle.redraw.specs.Drawing.{push, pop, shape}
 use Rattle.redraw.specs.Sheet.{Reading, refused, read, Lawful}
-use Rattle.items.specs.Items.{itemOf}
-use Rattle.items.specs.Format.{drawnAs, itemIn, sameBytes, sameBox, sameItem, sheetOf, reading, format}
+use Rattle.items.specs.Items.{itemOf, jointsOf}
+use Rattle.items.specs.Format.{reachOf, inkOf, partsOf, kind, drawnAs, itemIn, sameBytes, sameBox, sameItem, sheetOf, reading, format}
 use Rattle.items.specs.declared.Item.{Item}
 use Rattle.items.specs.declared.Item.the-variants.{Push, Pop, Fill, Stroke, Line, Poly, Shadow, Chain, Unknown}
 
@@ -99,8 +108,45 @@ numbered s n k e =
     (λ z r. rw (sym (ap numberOf r)) (positive (eqb-false _ 0 z)))
     e
 
+-- ---- parts
+
+module _ (pitch : ℕ) (clip : IRect) (px : List ℕ) where
+  -- a shape without reach leaves px
+  unreached : (ink : ℕ → ℕ → ℕ → ℕ) → px ≡ drawn pitch clip noBox ink px
+  unfolding drawn meets
+  unreached ink =
+      onto-none _ _ px (λ k l. let e : inside noBox (pos (k % pitch)) (pos (k / pitch)) ≡ false = in-noBox (pos (k % pitch)) (pos (k / pitch)) in
+      rw e (neither (inside clip (pos (k % pitch)) (pos (k / pitch)))))
+    where
+      neither : (t : Bool) → (t && false) ≡ false
+      neither true = refl
+      neither false = refl
+
+  -- the lines of a chain, and of one whose points are too many
+  lines : (b : List ℕ) (width : Float) (color : Color) (count : ℕ) (t : Bool) → let l = chainOf (jointsOf b count) width color in
+      drawnAll pitch clip (cond t l []) px ≡ drawn pitch clip (cond t (reachAll l) noBox) (inkAll l) px
+  unfolding drawnAll
+  lines b width color count true = all-drawn pitch clip (chainOf (jointsOf b count) width color) px
+  lines b width color count false = unreached _
+
+  parts-drawn : (b : List ℕ) (i : Item) → drawnAll pitch clip (partsOf b i) px ≡ drawn pitch clip (reachOf b i) (inkOf b i) px
+  unfolding partsOf reachOf inkOf
+  parts-drawn b (Push rect) = one-drawn pitch clip _ px
+  parts-drawn b Pop = one-drawn pitch clip _ px
+  parts-drawn b (Fill rect r paint) = one-drawn pitch clip _ px
+  parts-drawn b (Stroke rect r width color) = one-drawn pitch clip _ px
+  parts-drawn b (Line p q width color) = one-drawn pitch clip _ px
+  parts-drawn b (Poly paint count) = one-drawn pitch clip _ px
+  parts-drawn b (Shadow rect r blur color skip) = one-drawn pitch clip _ px
+  parts-drawn b (Chain width color count) = lines b width color count (leb count 64)
+  parts-drawn b Unknown = one-drawn pitch clip _ px
+
+whole : (b : List ℕ) (pitch : ℕ) (clip : IRect) (px : List ℕ) → drawnAll pitch clip (kind .parts b) px ≡ drawing.shapeOn kind pitch clip b px
+unfolding drawing.shapeOn
+whole b pitch clip px = parts-drawn pitch clip px b (itemOf b)
+
 pub lawful : Lawful format
-lawful = record { sound = sound; numbered = numbered }
+lawful = record { sound = sound; numbered = numbered; whole = whole }
 
 -- the bytes of an item
 abbrev bytesOf : drawing.Item (List ℕ) → List ℕ

@@ -12,7 +12,7 @@ use Rattle.geom.specs.Plane.{outerOf}
 use Rattle.geom.specs.declared.IRect.{IRect}
 use Rattle.color.specs.Colours.{pixOf}
 use Rattle.color.specs.declared.Color.{Color}
-use Rattle.draw.specs.Parts.{reachAll, inkAll}
+use Rattle.draw.specs.Parts.{Part, part, reachAll, inkAll}
 use Rattle.fill.specs.Fill.{fillReach, fillInk}
 use Rattle.stroke.specs.Stroke.{strokeReach, strokeInk}
 use Rattle.line.specs.Lines.{lineReach, lineInk}
@@ -57,6 +57,21 @@ inkOf b (Shadow rect r blur color skip) = shadowInk rect r blur color skip
 inkOf b (Chain width color count) = inkAll (chainOf (jointsOf b count) width color)
 inkOf b Unknown = λ x y p. p
 
+-- its parts, of which each takes one step at a pixel: a chain's lines; of any other shape one
+abbrev pub alone : List ℕ → Item → List Part
+alone b i = part (reachOf b i) (inkOf b i) ∷ []
+
+unfoldable pub partsOf : List ℕ → Item → List Part
+partsOf b (Push rect) = alone b (Push rect)
+partsOf b Pop = alone b Pop
+partsOf b (Fill rect r paint) = alone b (Fill rect r paint)
+partsOf b (Stroke rect r width color) = alone b (Stroke rect r width color)
+partsOf b (Line a e width color) = alone b (Line a e width color)
+partsOf b (Poly paint count) = alone b (Poly paint count)
+partsOf b (Shadow rect r blur color skip) = alone b (Shadow rect r blur color skip)
+partsOf b (Chain width color count) = cond (leb count 64) (chainOf (jointsOf b count) width color) []
+partsOf b Unknown = alone b Unknown
+
 -- the scratch words that it needs
 unfoldable pub needOf : List ℕ → Item → ℕ
 needOf b (Push rect) = 0
@@ -70,7 +85,13 @@ needOf b (Chain width color count) = 0
 needOf b Unknown = 0
 
 abbrev pub kind : Kind
-kind = record { Shape = List ℕ; reach = λ b. reachOf b (itemOf b); ink = λ b. inkOf b (itemOf b) }
+kind =
+    record {
+      Shape = List ℕ;
+      reach = λ b. reachOf b (itemOf b);
+      ink = λ b. inkOf b (itemOf b);
+      parts = λ b. partsOf b (itemOf b);
+    }
 
 -- ---- items
 

@@ -32,8 +32,8 @@ fn width(area: u32, bytes: &[u8]) -> u32
         2 => 13,
         3 => 157,
         4 => 10,
-        5 => 98,
-        6 | 7 => 249,
+        5 => 99,
+        6 | 7 => 251,
         _ => 17 + word(bytes, 0) % 65536 / 4,
     }
 }
@@ -55,11 +55,17 @@ fn lent_scratch(area: u32, case: &[u8]) -> usize
     least(n as usize, 4096)
 }
 
+// Whether a shape call answers as stored: number and steps.
+fn shaped(case: &[u8], px: &mut [u32], scratch: &mut [f32]) -> bool {
+    let told = shape_cases::shape(case, px, scratch);
+    (told.number == word(case, 97)) & (told.steps == word(case, 98) as u64)
+}
+
 // Whether a call answers as stored.
 fn said(area: u32, case: &[u8], px: &mut [u32], scratch: &mut [f32]) -> bool {
     match area {
         3 => canvas::said(case, px),
-        5 => shape_cases::shape(case, px, scratch) == word(case, 97),
+        5 => shaped(case, px, scratch),
         _ => sheets::said(case, px, scratch),
     }
 }
@@ -69,7 +75,7 @@ fn left(area: u32, case: &[u8], px: &[u32], scratch: &[f32]) -> bool {
     match area {
         3 => same_steps(px, from(case, 84)),
         5 => as_stored(px, scratch, from(case, 32)),
-        _ => as_stored(px, scratch, from(case, 13)),
+        _ => as_stored(px, scratch, from(case, 15)),
     }
 }
 

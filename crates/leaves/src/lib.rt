@@ -8,6 +8,7 @@ mod sheets;
 pub use crate::counting::ALL;
 pub use crate::counting::Tally;
 pub use crate::counting::count;
+use shape_cases::Told;
 use shape_cases::shape;
 ghost use mathlib.Core.Path.{_≡_};
 ghost use mathlib.Core.List.{map};
@@ -80,8 +81,8 @@ pub extern "C" fn leaves_differing(bytes: &[u8], area: u32) -> u32 {
     count(bytes, area, ALL).differ
 }
 
-// Draws the shape of a case's words; returns its number, or 99 where the state is not left as it was.
+// Draws the shape of a case's words.
 #[no_mangle]
-pub extern "C" fn leaves_shape(bytes: &[u8], px: &mut [u32], scratch: &mut [f32]) -> u32 {
+pub extern "C" fn leaves_shape(bytes: &[u8], px: &mut [u32], scratch: &mut [f32]) -> Told {
     shape(bytes, px, scratch)
 }

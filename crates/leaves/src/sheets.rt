@@ -7,11 +7,11 @@ use cases::word::upto;
 use cases::word::word;
 use paint::paint;
 use patch::patch;
-use redraw::Answer;
+use redraw::Reply;
 
 // The old sheet of a patch.
 fn old_sheet(case: &[u8]) -> &[u8] {
-    upto(from(case, 78), word(case, 1))
+    upto(from(case, 80), word(case, 1))
 }
 
 // How many words n bytes fill.
@@ -21,22 +21,24 @@ fn words(n: u32) -> u32 {
 
 // The sheet that is painted, or the new one of a patch: it stands after the old one.
 fn new_sheet(case: &[u8]) -> &[u8] {
-    let sheets = from(case, 78);
+    let sheets = from(case, 80);
     upto(from(sheets, words(word(case, 1))), word(case, 2))
 }
 
-// Whether an answer is as stored: number, item, box.
-fn same_answer(a: Answer, words: &[u8]) -> bool {
+// Whether a reply is as stored: number, item, box, and both counts.
+fn same_reply(r: Reply, words: &[u8]) -> bool {
+    let a = r.answer;
     let numbers = (a.number == word(words, 0)) & (a.item == word(words, 1));
-    numbers & same_box(a.area, irect(from(words, 2)))
+    let counts = (r.steps == word(words, 6) as u64) & (r.grounded == word(words, 7) as u64);
+    numbers & same_box(a.area, irect(from(words, 2))) & counts
 }
 
 fn painted(case: &[u8], px: &mut [u32], scratch: &mut [f32]) -> bool {
-    same_answer(paint(new_sheet(case), px, scratch), from(case, 7))
+    same_reply(paint(new_sheet(case), px, scratch), from(case, 7))
 }
 
 fn patched(case: &[u8], px: &mut [u32], scratch: &mut [f32]) -> bool {
-    same_answer(
+    same_reply(
         patch(old_sheet(case), new_sheet(case), px, scratch),
         from(case, 7),
     )

@@ -1,13 +1,14 @@
 -- `Canvas::polyline`: a line between each two successive points, in order. A joint is blended by both of its lines.
 use mathlib.Core.List.{List, [], _∷_}
-use Prim.Native.Nat.{ℕ, zero, suc, _+_, _*_, _-_, _/_}
+use mathlib.Core.Path.{_≡_}
+use Prim.Native.Nat.{ℕ, zero, suc, _+_, _*_, _-_, _/_, _≤_}
 use lib.Ieee.{Float, nan}
 use lib.ListN.{length, getD}
 use Rattle.geom.specs.declared.Pt.{Pt}
 use Rattle.geom.specs.declared.IRect.{IRect}
 use Rattle.geom.specs.Plane.{ptOf}
 use Rattle.color.specs.declared.Color.{Color}
-use Rattle.draw.specs.Parts.{Part, part, drawnAll}
+use Rattle.draw.specs.Parts.{Part, part, drawnAll, altersAll}
 use Rattle.line.specs.Lines.{lineReach, lineInk}
 
 -- point i of coordinates x y x y
@@ -30,3 +31,13 @@ chainOf pts width c = linesFrom pts width c (length pts / 2 - 1) 0
 -- px after all of them
 unfoldable pub polylined : ℕ → IRect → List Float → Float → Color → List ℕ → List ℕ
 polylined pitch clip pts width c px = drawnAll pitch clip (chainOf pts width c) px
+
+-- how many of their steps alter a pixel's value, each line on what the one before left: a joint takes a step by each of its lines
+unfoldable pub polylineSteps : ℕ → IRect → List Float → Float → Color → List ℕ → ℕ
+polylineSteps pitch clip pts width c px = altersAll pitch clip (chainOf pts width c) px
+
+-- what drawing them promises
+pub record DrewLines (pitch : ℕ) (clip : IRect) (pts : List Float) (width : Float) (c : Color) (px : List ℕ) (n : ℕ) (px′ : List ℕ) : Type 0 where
+  pub paints : px′ ≡ polylined pitch clip pts width c px
+  pub counts : n ≡ polylineSteps pitch clip pts width c px
+  pub few : n ≤ 268435456

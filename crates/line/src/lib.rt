@@ -10,12 +10,12 @@ use geom::float_ok;
 use geom::join;
 use geom::nat_of;
 use gfx::Canvas;
-use gfx::Done;
+use gfx::Counted;
 use gfx::points_number;
 use paints::Edge;
 use paints::centre;
 ghost use mathlib.Core.Path.{_≡_};
-ghost use Prim.Native.Nat.{_+_, _/_, _<_};
+ghost use Prim.Native.Nat.{_/_, _<_, _≤_};
 ghost use lib.ListN.{length};
 ghost use Rattle.geom.specs.declared.IRect.{IRect};
 ghost use Rattle.geom.specs.Int.{up};
@@ -23,12 +23,12 @@ ghost use Rattle.geom.specs.Plane.{floatOk};
 ghost use Rattle.color.specs.declared.Color.{Color};
 ghost use Rattle.draw.specs.Draw.{drawn};
 ghost use Rattle.draw.specs.Parts.{reachAll};
-ghost use Rattle.draw.specs.Areas.{area, drawnIn, clipTo, RowFits, AreaFits};
-ghost use Rattle.gfx.specs.Calls.{Called, shapeNumber};
+ghost use Rattle.draw.specs.Areas.{clipTo, RowFits, AreaFits, Drew, DrewRow, DrewIn};
+ghost use Rattle.gfx.specs.Calls.{CalledCounted, ShapeCalled, shapeNumber};
 ghost use Rattle.gfx.specs.Points.{pointsNumber};
 ghost use Rattle.paints.specs.Edges.{Sure};
 ghost use Rattle.line.specs.Lines.{absOf, lineReach, segmentOf, coverOf, segmentInk, lineInk, lineOk};
-ghost use Rattle.line.specs.Polylines.{pointAt, polylined, chainOf};
+ghost use Rattle.line.specs.Polylines.{pointAt, polylined, polylineSteps, chainOf, DrewLines};
 
 // What the pixels of a line share: its start, its direction, the square of its length and half its width.
 struct Segment {
@@ -102,56 +102,63 @@ fn segment_row(
     s: Segment,
     e: Edge,
     color: Color,
-)
+) -> u32
     requires { ⌜ RowFits w y x0 x1 (length (now px)) ⌝ }
     requires { ⌜ Sure (s .hw) e ⌝ }
-    ensures { λ _. ⌜ now (px .exit) ≡ drawnIn w (area x0 y x1 (y + 1)) (segmentInk s color) (now (px .entry)) ⌝ }
+    ensures { λ n. ⌜ DrewRow w y x0 x1 (segmentInk s color) (now (px .entry)) n (now (px .exit)) ⌝ }
 {
     let row = y * w;
     let yc = centre(y as u16);
+    let mut n = 0;
     for x in x0..x1 {
         let cv = cover(s, e, centre(x as u16), yc);
         if cv == 0 {
             continue;
         }
         let i = row + x;
-        px[i] = blend_c(px[i], color, cv);
+        let q = blend_c(px[i], color, cv);
+        px[i] = q.value;
+        n += q.altered as u32;
     }
+    n
 }
 
 // The pixels of an area, row by row.
-fn segment_box(px: &mut [u32], w: usize, bb: Area, s: Segment, e: Edge, color: Color)
+fn segment_box(px: &mut [u32], w: usize, bb: Area, s: Segment, e: Edge, color: Color) -> u32
     requires { ⌜ AreaFits w bb (length (now px)) ⌝ }
     requires { ⌜ Sure (s .hw) e ⌝ }
-    ensures { λ _. ⌜ now (px .exit) ≡ drawnIn w bb (segmentInk s color) (now (px .entry)) ⌝ }
+    ensures { λ n. ⌜ DrewIn w bb (segmentInk s color) (now (px .entry)) n (now (px .exit)) ⌝ }
 {
     let x0 = bb.x0;
     let x1 = bb.x1;
     let y0 = bb.y0;
     let y1 = bb.y1;
+    let mut n = 0;
     for y in y0..y1 {
-        segment_row(px, w, y, x0, x1, s, e, color);
+        n += segment_row(px, w, y, x0, x1, s, e, color);
     }
+    n
 }
 
 // An area of a line: what its rows share is worked out first.
-fn line_all(px: &mut [u32], w: usize, bb: Area, a: Pt, b: Pt, width: f32, color: Color)
+fn line_all(px: &mut [u32], w: usize, bb: Area, a: Pt, b: Pt, width: f32, color: Color) -> u32
     requires { ⌜ AreaFits w bb (length (now px)) ⌝ }
-    ensures { λ _. ⌜ now (px .exit) ≡ drawnIn w bb (lineInk a b width color) (now (px .entry)) ⌝ }
+    ensures { λ n. ⌜ DrewIn w bb (lineInk a b width color) (now (px .entry)) n (now (px .exit)) ⌝ }
 {
     let s = segment_of(a, b, width);
-    segment_box(px, w, bb, s, Edge::of(s.hw), color);
+    segment_box(px, w, bb, s, Edge::of(s.hw), color)
 }
 
 // One line under a clip within px.
-fn draw_line(px: &mut [u32], w: usize, clip: IRect, a: Pt, b: Pt, width: f32, color: Color)
+fn draw_line(px: &mut [u32], w: usize, clip: IRect, a: Pt, b: Pt, width: f32, color: Color) -> u32
     requires { ⌜ AreaFits w (clipTo (lineReach a b width) clip) (length (now px)) ⌝ }
-    ensures { λ _. ⌜ now (px .exit) ≡ drawn w clip (lineReach a b width) (lineInk a b width color) (now (px .entry)) ⌝ }
+    ensures { λ n. ⌜ Drew 4194304 (now (px .entry)) (drawn w clip (lineReach a b width) (lineInk a b width color) (now (px .entry))) n (now (px .exit)) ⌝ }
 {
     let bb = clipped(line_reach(a, b, width), clip);
     if bb.y0 < bb.y1 {
-        line_all(px, w, bb, a, b, width, color);
+        return line_all(px, w, bb, a, b, width, color);
     }
+    0
 }
 
 fn line_ok(a: Pt, b: Pt, width: f32) -> bool
@@ -161,16 +168,24 @@ fn line_ok(a: Pt, b: Pt, width: f32) -> bool
 }
 
 // A line between two points.
-pub fn line(canvas: Canvas, px: &mut [u32], a: Pt, b: Pt, width: f32, color: Color) -> Done
-    ensures { λ r. ⌜ Called (shapeNumber canvas (length (now (px .entry))) (lineOk a b width)) canvas canvas (now (px .entry)) (drawn (up (canvas .w)) (canvas .clip) (lineReach a b width) (lineInk a b width color) (now (px .entry))) r (now (px .exit)) ⌝ }
+pub fn line(canvas: Canvas, px: &mut [u32], a: Pt, b: Pt, width: f32, color: Color) -> Counted
+    ensures { λ r. ⌜ ShapeCalled (shapeNumber canvas (length (now (px .entry))) (lineOk a b width)) canvas (now (px .entry)) (drawn (up (canvas .w)) (canvas .clip) (lineReach a b width) (lineInk a b width color) (now (px .entry))) r (now (px .exit)) ⌝ }
 {
     let number = canvas.shape_number(px.len(), line_ok(a, b, width));
     if number != 0 {
-        return Done { number, canvas };
+        return Counted {
+            number,
+            canvas,
+            steps: 0,
+        };
     }
     let clip = canvas.clip;
-    draw_line(px, nat_of(canvas.w), clip, a, b, width, color);
-    Done { number, canvas }
+    let steps = draw_line(px, nat_of(canvas.w), clip, a, b, width, color) as u64;
+    Counted {
+        number,
+        canvas,
+        steps,
+    }
 }
 
 // Point i of coordinates x y x y.
@@ -203,24 +218,35 @@ pub fn polyline_reach(pts: &[f32], width: f32) -> IRect
 }
 
 // The lines between successive points, under a clip within px.
-fn draw_lines(px: &mut [u32], w: usize, clip: IRect, pts: &[f32], width: f32, color: Color)
+fn draw_lines(px: &mut [u32], w: usize, clip: IRect, pts: &[f32], width: f32, color: Color) -> u32
     requires { ⌜ ((reach : IRect) → AreaFits w (clipTo reach clip) (length (now px))) ⌝ }
-    ensures { λ _. ⌜ now (px .exit) ≡ polylined w clip (now (pts .entry)) width color (now (px .entry)) ⌝ }
+    requires { ⌜ length (now pts) ≤ 128 ⌝ }
+    ensures { λ n. ⌜ DrewLines w clip (now (pts .entry)) width color (now (px .entry)) n (now (px .exit)) ⌝ }
 {
+    let mut n = 0;
     for i in 1..pts.len() / 2 {
-        draw_line(px, w, clip, point(pts, i - 1), point(pts, i), width, color);
+        n += draw_line(px, w, clip, point(pts, i - 1), point(pts, i), width, color);
     }
+    n
 }
 
 // Lines between successive points, whose coordinates stand one after another.
-pub fn polyline(canvas: Canvas, px: &mut [u32], pts: &[f32], width: f32, color: Color) -> Done
-    ensures { λ r. ⌜ Called (pointsNumber canvas (length (now (px .entry))) (now (pts .entry)) (floatOk width)) canvas canvas (now (px .entry)) (polylined (up (canvas .w)) (canvas .clip) (now (pts .entry)) width color (now (px .entry))) r (now (px .exit)) ⌝ }
+pub fn polyline(canvas: Canvas, px: &mut [u32], pts: &[f32], width: f32, color: Color) -> Counted
+    ensures { λ r. ⌜ CalledCounted (pointsNumber canvas (length (now (px .entry))) (now (pts .entry)) (floatOk width)) canvas (now (px .entry)) (polylined (up (canvas .w)) (canvas .clip) (now (pts .entry)) width color (now (px .entry))) (polylineSteps (up (canvas .w)) (canvas .clip) (now (pts .entry)) width color (now (px .entry))) r (now (px .exit)) ⌝ }
 {
     let number = points_number(canvas, px.len(), pts, float_ok(width));
     if number != 0 {
-        return Done { number, canvas };
+        return Counted {
+            number,
+            canvas,
+            steps: 0,
+        };
     }
     let clip = canvas.clip;
-    draw_lines(px, nat_of(canvas.w), clip, pts, width, color);
-    Done { number, canvas }
+    let steps = draw_lines(px, nat_of(canvas.w), clip, pts, width, color) as u64;
+    Counted {
+        number,
+        canvas,
+        steps,
+    }
 }

@@ -14,9 +14,9 @@ use Rattle.paints.specs.declared.Paint.{Paint}
 use Rattle.paints.specs.declared.Paint.the-variants.{Solid, VGrad, Linear, Radial}
 use Rattle.paints.specs.Paints.{paintOk}
 use Rattle.gfx.specs.declared.Canvas.{Canvas}
-use Rattle.gfx.specs.declared.Done.{Done}
+use Rattle.gfx.specs.declared.Counted.{Counted}
 use Rattle.gfx.specs.State.{validOf}
-use Rattle.gfx.specs.Calls.{unless, areaOf, Called}
+use Rattle.gfx.specs.Calls.{unless, areaOf, ShapeCalled}
 use Rattle.gfx.specs.Points.{pointsOk, coordsOk}
 use Rattle.fill.specs.Fill.{fillReach, fillInk}
 use Rattle.poly.specs.Poly.{polyNeed}
@@ -66,6 +66,6 @@ pointsKindNumber c n pts = unless (validOf c) 12 (unless (eqb n (areaOf (c .w) (
 -- ---- the fills
 
 -- what a fill with a brush promises: but for its number, what the fill with its paint does
-abbrev pub Brushed : Canvas → Brush → Bool → Rect → Float → List ℕ → Done → List ℕ → Type 0
+abbrev pub Brushed : Canvas → Brush → Bool → Rect → Float → List ℕ → Counted → List ℕ → Type 0
 Brushed canvas b ok rect r px =
-    Called (brushNumber canvas (length px) b ok) canvas canvas px (drawn (up (canvas .w)) (canvas .clip) (fillReach rect) (fillInk rect r (paintOf b)) px)
+    ShapeCalled (brushNumber canvas (length px) b ok) canvas px (drawn (up (canvas .w)) (canvas .clip) (fillReach rect) (fillInk rect r (paintOf b)) px)

@@ -8,7 +8,7 @@ use measure::measure;
 use orders::clip_order;
 use paint::paint;
 use patch::patch;
-use redraw::Answer;
+use redraw::Reply;
 use redraw::Room;
 ghost use mathlib.Core.Path.{_≡_};
 ghost use lib.ListN.{length};
@@ -29,7 +29,7 @@ pub extern "C" fn maldjupp_measure(sheet: &[u8]) -> Room
 
 // Paints a sheet: every pixel the ground, then its items in their order.
 #[no_mangle]
-pub extern "C" fn maldjupp_paint(sheet: &[u8], px: &mut [u32], scratch: &mut [f32]) -> Answer
+pub extern "C" fn maldjupp_paint(sheet: &[u8], px: &mut [u32], scratch: &mut [f32]) -> Reply
     ensures { λ r. ⌜ Painted zeroWord format (now (sheet .entry)) (now (px .entry)) (now (scratch .entry)) r (now (px .exit)) (now (scratch .exit)) ⌝ }
 {
     paint(sheet, px, scratch)
@@ -42,7 +42,7 @@ pub extern "C" fn maldjupp_patch(
     new: &[u8],
     px: &mut [u32],
     scratch: &mut [f32],
-) -> Answer
+) -> Reply
     ensures { λ r. ⌜ Patched zeroWord format (now (old .entry)) (now (new .entry)) (now (px .entry)) (now (scratch .entry)) r (now (px .exit)) (now (scratch .exit)) ⌝ }
 {
     patch(old, new, px, scratch)

@@ -1,4 +1,4 @@
-// The canvas calls that draw a shape. A paint comes as a brush.
+// The canvas calls that draw a shape, and count its steps that altered a pixel's value. A paint comes as a brush.
 use crate::brush::Brush;
 use crate::brush::kind_number;
 use crate::brush::points_kind_number;
@@ -9,7 +9,7 @@ use fill::fill_rrect;
 use geom::Pt;
 use geom::Rect;
 use gfx::Canvas;
-use gfx::Done;
+use gfx::Counted;
 use line::line;
 use line::polyline;
 use poly::fill_poly;
@@ -21,13 +21,13 @@ ghost use Rattle.mathf.specs.F32.{f0};
 ghost use Rattle.geom.specs.Int.{up};
 ghost use Rattle.geom.specs.Plane.{floatOk};
 ghost use Rattle.draw.specs.Draw.{drawn};
-ghost use Rattle.gfx.specs.Calls.{Called, shapeNumber};
+ghost use Rattle.gfx.specs.Calls.{CalledCounted, ShapeCalled, shapeNumber};
 ghost use Rattle.gfx.specs.Points.{pointsNumber};
 ghost use Rattle.paints.specs.Paints.{circleRect};
 ghost use Rattle.fill.specs.Fill.{rrectFloats, rectFloats, circleFloats};
 ghost use Rattle.stroke.specs.Stroke.{strokeOk, strokeReach, strokeInk, ringOk};
 ghost use Rattle.line.specs.Lines.{lineReach, lineInk, lineOk};
-ghost use Rattle.line.specs.Polylines.{polylined};
+ghost use Rattle.line.specs.Polylines.{polylined, polylineSteps};
 ghost use Rattle.poly.specs.Poly.{Filled};
 ghost use Rattle.shadow.specs.Shadow.{shadowOk, shadowReach, shadowInk};
 ghost use Rattle.maldjupp.specs.Brushes.{paintOf, Brushed, pointsBrushNumber};
@@ -40,12 +40,16 @@ pub extern "C" fn maldjupp_fill_rrect(
     rect: Rect,
     r: f32,
     brush: Brush,
-) -> Done
+) -> Counted
     ensures { λ d. ⌜ Brushed canvas brush (rrectFloats rect r (paintOf brush)) rect r (now (px .entry)) d (now (px .exit)) ⌝ }
 {
     if brush.kind > 3 {
         let number = kind_number(canvas, px.len());
-        return Done { number, canvas };
+        return Counted {
+            number,
+            canvas,
+            steps: 0,
+        };
     }
     fill_rrect(canvas, px, rect, r, brush.paint())
 }
@@ -57,12 +61,16 @@ pub extern "C" fn maldjupp_fill_rect(
     px: &mut [u32],
     rect: Rect,
     brush: Brush,
-) -> Done
+) -> Counted
     ensures { λ d. ⌜ Brushed canvas brush (rectFloats rect (paintOf brush)) rect f0 (now (px .entry)) d (now (px .exit)) ⌝ }
 {
     if brush.kind > 3 {
         let number = kind_number(canvas, px.len());
-        return Done { number, canvas };
+        return Counted {
+            number,
+            canvas,
+            steps: 0,
+        };
     }
     fill_rect(canvas, px, rect, brush.paint())
 }
@@ -76,12 +84,16 @@ pub extern "C" fn maldjupp_fill_circle(
     cy: f32,
     r: f32,
     brush: Brush,
-) -> Done
+) -> Counted
     ensures { λ d. ⌜ Brushed canvas brush (circleFloats cx cy r (paintOf brush)) (circleRect cx cy r) r (now (px .entry)) d (now (px .exit)) ⌝ }
 {
     if brush.kind > 3 {
         let number = kind_number(canvas, px.len());
-        return Done { number, canvas };
+        return Counted {
+            number,
+            canvas,
+            steps: 0,
+        };
     }
     fill_circle(canvas, px, cx, cy, r, brush.paint())
 }
@@ -95,8 +107,8 @@ pub extern "C" fn maldjupp_stroke_rrect(
     r: f32,
     width: f32,
     color: Color,
-) -> Done
-    ensures { λ d. ⌜ Called (shapeNumber canvas (length (now (px .entry))) (strokeOk rect r width)) canvas canvas (now (px .entry)) (drawn (up (canvas .w)) (canvas .clip) (strokeReach rect color) (strokeInk rect r width color) (now (px .entry))) d (now (px .exit)) ⌝ }
+) -> Counted
+    ensures { λ d. ⌜ ShapeCalled (shapeNumber canvas (length (now (px .entry))) (strokeOk rect r width)) canvas (now (px .entry)) (drawn (up (canvas .w)) (canvas .clip) (strokeReach rect color) (strokeInk rect r width color) (now (px .entry))) d (now (px .exit)) ⌝ }
 {
     stroke_rrect(canvas, px, rect, r, width, color)
 }
@@ -111,8 +123,8 @@ pub extern "C" fn maldjupp_ring(
     r: f32,
     width: f32,
     color: Color,
-) -> Done
-    ensures { λ d. ⌜ Called (shapeNumber canvas (length (now (px .entry))) (ringOk cx cy r width)) canvas canvas (now (px .entry)) (drawn (up (canvas .w)) (canvas .clip) (strokeReach (circleRect cx cy r) color) (strokeInk (circleRect cx cy r) r width color) (now (px .entry))) d (now (px .exit)) ⌝ }
+) -> Counted
+    ensures { λ d. ⌜ ShapeCalled (shapeNumber canvas (length (now (px .entry))) (ringOk cx cy r width)) canvas (now (px .entry)) (drawn (up (canvas .w)) (canvas .clip) (strokeReach (circleRect cx cy r) color) (strokeInk (circleRect cx cy r) r width color) (now (px .entry))) d (now (px .exit)) ⌝ }
 {
     ring(canvas, px, cx, cy, r, width, color)
 }
@@ -126,8 +138,8 @@ pub extern "C" fn maldjupp_line(
     b: Pt,
     width: f32,
     color: Color,
-) -> Done
-    ensures { λ r. ⌜ Called (shapeNumber canvas (length (now (px .entry))) (lineOk a b width)) canvas canvas (now (px .entry)) (drawn (up (canvas .w)) (canvas .clip) (lineReach a b width) (lineInk a b width color) (now (px .entry))) r (now (px .exit)) ⌝ }
+) -> Counted
+    ensures { λ r. ⌜ ShapeCalled (shapeNumber canvas (length (now (px .entry))) (lineOk a b width)) canvas (now (px .entry)) (drawn (up (canvas .w)) (canvas .clip) (lineReach a b width) (lineInk a b width color) (now (px .entry))) r (now (px .exit)) ⌝ }
 {
     line(canvas, px, a, b, width, color)
 }
@@ -140,8 +152,8 @@ pub extern "C" fn maldjupp_polyline(
     pts: &[f32],
     width: f32,
     color: Color,
-) -> Done
-    ensures { λ r. ⌜ Called (pointsNumber canvas (length (now (px .entry))) (now (pts .entry)) (floatOk width)) canvas canvas (now (px .entry)) (polylined (up (canvas .w)) (canvas .clip) (now (pts .entry)) width color (now (px .entry))) r (now (px .exit)) ⌝ }
+) -> Counted
+    ensures { λ r. ⌜ CalledCounted (pointsNumber canvas (length (now (px .entry))) (now (pts .entry)) (floatOk width)) canvas (now (px .entry)) (polylined (up (canvas .w)) (canvas .clip) (now (pts .entry)) width color (now (px .entry))) (polylineSteps (up (canvas .w)) (canvas .clip) (now (pts .entry)) width color (now (px .entry))) r (now (px .exit)) ⌝ }
 {
     polyline(canvas, px, pts, width, color)
 }
@@ -154,12 +166,16 @@ pub extern "C" fn maldjupp_fill_poly(
     pts: &[f32],
     brush: Brush,
     scratch: &mut [f32],
-) -> Done
+) -> Counted
     ensures { λ r. ⌜ Filled (pointsBrushNumber canvas (length (now (px .entry))) (now (pts .entry)) brush (length (now (scratch .entry)))) canvas (now (px .entry)) (now (pts .entry)) (paintOf brush) (now (scratch .entry)) r (now (px .exit)) (now (scratch .exit)) ⌝ }
 {
     if brush.kind > 3 {
         let number = points_kind_number(canvas, px.len(), pts);
-        return Done { number, canvas };
+        return Counted {
+            number,
+            canvas,
+            steps: 0,
+        };
     }
     fill_poly(canvas, px, pts, brush.paint(), scratch)
 }
@@ -174,8 +190,8 @@ pub extern "C" fn maldjupp_shadow_rrect(
     blur: f32,
     color: Color,
     skip: bool,
-) -> Done
-    ensures { λ d. ⌜ Called (shapeNumber canvas (length (now (px .entry))) (shadowOk rect r blur)) canvas canvas (now (px .entry)) (drawn (up (canvas .w)) (canvas .clip) (shadowReach rect blur color) (shadowInk rect r blur color skip) (now (px .entry))) d (now (px .exit)) ⌝ }
+) -> Counted
+    ensures { λ d. ⌜ ShapeCalled (shapeNumber canvas (length (now (px .entry))) (shadowOk rect r blur)) canvas (now (px .entry)) (drawn (up (canvas .w)) (canvas .clip) (shadowReach rect blur color) (shadowInk rect r blur color skip) (now (px .entry))) d (now (px .exit)) ⌝ }
 {
     shadow_rrect(canvas, px, rect, r, blur, color, skip)
 }

@@ -2,11 +2,13 @@
 use clips::canvas_of;
 use clips::first_state;
 use draw::larger;
+use fill::fill_ground;
 use geom::IRect;
 use items::ground;
 use items::part_at;
 use items::reaches::need;
 use redraw::Answer;
+use redraw::Reply;
 use render::render;
 use sheet::check_sheet;
 use sheet::u16_at;
@@ -14,17 +16,20 @@ ghost use mathlib.Core.Path.{_≡_};
 ghost use Rattle.sheet.specs.Check.{bytesAt};
 ghost use Rattle.items.specs.Items.{itemOf};
 ghost use Rattle.items.specs.Format.{needOf, format, zeroWord};
-ghost use Rattle.redraw.specs.Sheet.{refusal};
-ghost use Rattle.redraw.specs.Calls.{Painted};
-ghost use Rattle.render.specs.Stages.{Left};
-ghost use Rattle.paint.specs.Paint.{needIn, lentNumber, drawnAll};
+ghost use Rattle.redraw.specs.Calls.{refusedBy, Painted};
+ghost use Rattle.paint.specs.Paint.{needIn, lentNumber, DrewSheet};
 
-// A refusal's answer: its box is four zeros.
-pub fn refusal(number: u32, item: u32) -> Answer
-    ensures { λ r. ⌜ r ≡ refusal number item ⌝ }
+// The reply of a refused call: its box is four zeros, and it altered nothing.
+pub fn refusal(number: u32, item: u32) -> Reply
+    ensures { λ r. ⌜ r ≡ refusedBy number item ⌝ }
 {
     let area = IRect::new(0, 0, 0, 0);
-    Answer { number, item, area }
+    let answer = Answer { number, item, area };
+    Reply {
+        answer,
+        steps: 0,
+        grounded: 0,
+    }
 }
 
 // What the item k needs.
@@ -62,17 +67,27 @@ pub fn lent_number(s: &[u8], n: usize, words: usize) -> u32
     0
 }
 
-// Sets px to the ground, and draws the sheet with the whole canvas as clip.
-fn draw_all(s: &[u8], area: IRect, px: &mut [u32], scratch: &mut [f32])
-    ensures { λ _. ⌜ Left (drawnAll (now (s .entry)) area (now (px .entry)) (now (scratch .entry)) .px) (drawnAll (now (s .entry)) area (now (px .entry)) (now (scratch .entry)) .scratch) (now (px .exit)) (now (scratch .exit)) ⌝ }
+// Sets an area to the ground, and draws the sheet with the area as first clip: the reply of an accepted call.
+pub fn draw_in(s: &[u8], area: IRect, px: &mut [u32], scratch: &mut [f32]) -> Reply
+    ensures { λ r. ⌜ DrewSheet (now (s .entry)) area (now (px .entry)) (now (scratch .entry)) r (now (px .exit)) (now (scratch .exit)) ⌝ }
 {
     let state = first_state(s, area);
-    state.clear(px, ground(s));
-    render(s, state, px, scratch);
+    let grounded = fill_ground(state, px, ground(s)).steps;
+    let steps = render(s, state, px, scratch);
+    let answer = Answer {
+        number: 0,
+        item: 0,
+        area,
+    };
+    Reply {
+        answer,
+        steps,
+        grounded,
+    }
 }
 
 // Paints a sheet: every pixel the ground, then its items in their order.
-pub fn paint(sheet: &[u8], px: &mut [u32], scratch: &mut [f32]) -> Answer
+pub fn paint(sheet: &[u8], px: &mut [u32], scratch: &mut [f32]) -> Reply
     ensures { λ r. ⌜ Painted zeroWord format (now (sheet .entry)) (now (px .entry)) (now (scratch .entry)) r (now (px .exit)) (now (scratch .exit)) ⌝ }
 {
     let v = check_sheet(sheet);
@@ -84,11 +99,5 @@ pub fn paint(sheet: &[u8], px: &mut [u32], scratch: &mut [f32]) -> Answer
     if lent != 0 {
         return refusal(lent, 0);
     }
-    let area = canvas_of(sheet);
-    draw_all(sheet, area, px, scratch);
-    Answer {
-        number: 0,
-        item: 0,
-        area,
-    }
+    draw_in(sheet, canvas_of(sheet), px, scratch)
 }

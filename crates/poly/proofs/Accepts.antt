@@ -9,11 +9,11 @@ use lib.Ieee.{Float}
 use Rattle.geom.specs.Box.{noBox}
 use Rattle.geom.proofs.Bools.{and-left, and-right, split}
 use Rattle.gfx.specs.Points.{pointsOk, coordsOk}
+use Rattle.gfx.proofs.Coords.{points-few}
 use Rattle.bounds.specs.Bounds.{painted, polyBox, reachOf, needOf}
 use Rattle.bounds.specs.Plans.{Near, planned, noPlan, planOf}
 use Rattle.bounds.proofs.Boxed.{box-near}
 use Rattle.poly.specs.Poly.{polyReach, polyNeed, polyOk, needIn, reachIn}
-use Rattle.poly.proofs.Calls.{count-of}
 use Rattle.poly.proofs.Needs.{points-some}
 
 module _ (pts : List Float) where
@@ -29,7 +29,7 @@ module _ (pts : List Float) where
 
     pub few-in : length pts ≤ 128
     unfolding polyOk
-    few-in = count-of pts (and-left (pointsOk pts) (coordsOk pts) h)
+    few-in = points-few pts (and-left (pointsOk pts) (coordsOk pts) h)
 
     pub coords-in : coordsOk pts ≡ true
     unfolding polyOk

@@ -18,11 +18,11 @@ use Rattle.geom.specs.declared.Pt.{Pt}
 use Rattle.geom.specs.declared.IRect.{IRect}
 use Rattle.color.specs.Inks.{overC}
 use Rattle.draw.specs.Draw.{drawn}
-use Rattle.gfx.specs.Calls.{unless, Called}
+use Rattle.gfx.specs.Calls.{unless, ShapeCalled}
 use Rattle.gfx.specs.Points.{pointsOk, coordsOk, pointsNumber}
 use Rattle.paints.specs.Paints.{paintAt, paintOk, centreOf}
 use Rattle.gfx.specs.declared.Canvas.{Canvas}
-use Rattle.gfx.specs.declared.Done.{Done}
+use Rattle.gfx.specs.declared.Counted.{Counted}
 use Rattle.paints.specs.declared.Paint.{Paint}
 use Rattle.accum.specs.Lines.{lineAccum}
 use Rattle.bounds.specs.Bounds.{pointCount, pointAt, polyBox, painted, reachOf, needOf}
@@ -90,9 +90,9 @@ polyNumber c n pts paint words =
     let number = pointsNumber c n pts (paintOk paint) in
     cond (eqb number 0) (unless (leb (polyNeed pts) words) 9 0) number
 
--- what `fill_poly` promises of number, state and px, and of the scratch, which a refused call leaves
-pub record Filled (n : ℕ) (c : Canvas) (px : List ℕ) (pts : List Float) (paint : Paint) (scratch : List Float) (r : Done) (px′ : List ℕ) (scratch′ : List Float) : Type 0 where
-  pub called : Called n c c px (drawn (up (c .w)) (c .clip) (polyReach pts) (polyInk pts paint) px) r px′
+-- what `fill_poly` promises of number, state, px and the count of its steps, and of the scratch, which a refused call leaves
+pub record Filled (n : ℕ) (c : Canvas) (px : List ℕ) (pts : List Float) (paint : Paint) (scratch : List Float) (r : Counted) (px′ : List ℕ) (scratch′ : List Float) : Type 0 where
+  pub called : ShapeCalled n c px (drawn (up (c .w)) (c .clip) (polyReach pts) (polyInk pts paint) px) r px′
   pub clears : scratch′ ≡ cond (eqb n 0) (cleared (polyNeed pts) scratch) scratch
 
 -- ---- reach and need of any points

@@ -9,7 +9,7 @@ use bounds::reach_of;
 use geom::IRect;
 use geom::nat_of;
 use gfx::Canvas;
-use gfx::Done;
+use gfx::Counted;
 use gfx::coords_ok;
 use gfx::points_number;
 use gfx::points_ok;
@@ -54,15 +54,25 @@ pub fn fill_poly(
     pts: &[f32],
     paint: Paint,
     scratch: &mut [f32],
-) -> Done
+) -> Counted
     ensures { λ r. ⌜ Filled (polyNumber canvas (length (now (px .entry))) (now (pts .entry)) paint (length (now (scratch .entry)))) canvas (now (px .entry)) (now (pts .entry)) paint (now (scratch .entry)) r (now (px .exit)) (now (scratch .exit)) ⌝ }
 {
     let number = points_number(canvas, px.len(), pts, paint.in_range());
     if number != 0 {
-        return Done { number, canvas };
+        return Counted {
+            number,
+            canvas,
+            steps: 0,
+        };
     }
     let pitch = nat_of(canvas.w);
     let clip = canvas.clip;
-    let number = fill_lent(px, scratch, pitch, clip, pts, paint);
-    Done { number, canvas }
+    let lent = fill_lent(px, scratch, pitch, clip, pts, paint);
+    let number = lent.number;
+    let steps = lent.steps as u64;
+    Counted {
+        number,
+        canvas,
+        steps,
+    }
 }

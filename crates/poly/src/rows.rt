@@ -2,6 +2,7 @@
 use bounds::PolyBox;
 use bounds::reach_of;
 use color::Color;
+use color::Inked;
 use color::blend_c;
 use draw::Area;
 use draw::clipped;
@@ -15,9 +16,9 @@ ghost use mathlib.Core.Path.{_≡_};
 ghost use Prim.Native.Nat.{_+_, _-_, _≤_};
 ghost use lib.IntN.{natAbs};
 ghost use lib.ListN.{length};
-ghost use Rattle.color.specs.Inks.{overC};
+ghost use Rattle.color.specs.Inks.{overC, inkedOf};
 ghost use Rattle.paints.specs.Paints.{paintAt, centreOf};
-ghost use Rattle.draw.specs.Areas.{drawnIn, area, clipTo, RowFits, AreaFits};
+ghost use Rattle.draw.specs.Areas.{clipTo, RowFits, AreaFits, DrewRow, DrewIn};
 ghost use Rattle.accum.specs.Rooms.{Room};
 ghost use Rattle.bounds.specs.Bounds.{reachOf};
 ghost use Rattle.bounds.specs.Plans.{Near};
@@ -37,18 +38,18 @@ fn cover(a: f32) -> u32
 }
 
 // The paint over the pixel p in column x and row y.
-fn shade(p: u32, paint: Paint, x: usize, y: usize, cv: u32) -> u32
+fn shade(p: u32, paint: Paint, x: usize, y: usize, cv: u32) -> Inked
     requires { ⌜ (x ≤ 2048) × (y ≤ 2048) ⌝ }
-    ensures { λ r. ⌜ r ≡ overC p (paintAt paint (centreOf x) (centreOf y)) cv ⌝ }
+    ensures { λ r. ⌜ r ≡ inkedOf p (overC p (paintAt paint (centreOf x) (centreOf y)) cv) ⌝ }
 {
     let c = paint.at(centre(x as u16), centre(y as u16));
     blend_c(p, c, cv)
 }
 
 // A linear gradient over the pixel p in column x and row y.
-fn line_shade(p: u32, p0: Pt, p1: Pt, c0: Color, c1: Color, x: usize, y: usize, cv: u32) -> u32
+fn line_shade(p: u32, p0: Pt, p1: Pt, c0: Color, c1: Color, x: usize, y: usize, cv: u32) -> Inked
     requires { ⌜ (x ≤ 2048) × (y ≤ 2048) ⌝ }
-    ensures { λ r. ⌜ r ≡ overC p (paintAt (Linear p0 p1 c0 c1) (centreOf x) (centreOf y)) cv ⌝ }
+    ensures { λ r. ⌜ r ≡ inkedOf p (overC p (paintAt (Linear p0 p1 c0 c1) (centreOf x) (centreOf y)) cv) ⌝ }
 {
     let t = along_line(p0, p1, centre(x as u16), centre(y as u16));
     blend_c(p, c0.mix(c1, t), cv)
@@ -86,21 +87,26 @@ fn paint_row(
     ls: usize,
     skip: usize,
     paint: Paint,
-)
+) -> u32
     requires { ⌜ RowFits pitch y x0 x1 (length (now px)) ⌝ }
     requires { ⌜ ls + (skip + (x1 - x0)) ≤ length (now acc) ⌝ }
-    ensures { λ _. ⌜ now (px .exit) ≡ drawnIn pitch (area x0 y x1 (y + 1)) (inkFrom (now (acc .entry)) ls skip x0 paint) (now (px .entry)) ⌝ }
+    ensures { λ n. ⌜ DrewRow pitch y x0 x1 (inkFrom (now (acc .entry)) ls skip x0 paint) (now (px .entry)) n (now (px .exit)) ⌝ }
 {
     let row = y * pitch;
     let mut a = run_sum(acc, ls, skip);
+    let mut n = 0;
     for x in x0..x1 {
         a = a + acc[ls + (skip + (x - x0))];
         let cv = cover(a);
         if cv == 0 {
             continue;
         }
-        px[row + x] = shade(px[row + x], paint, x, y, cv);
+        let i = row + x;
+        let q = shade(px[i], paint, x, y, cv);
+        px[i] = q.value;
+        n += q.altered as u32;
     }
+    n
 }
 
 // The same under a linear gradient.
@@ -117,21 +123,26 @@ fn line_row(
     p1: Pt,
     c0: Color,
     c1: Color,
-)
+) -> u32
     requires { ⌜ RowFits pitch y x0 x1 (length (now px)) ⌝ }
     requires { ⌜ ls + (skip + (x1 - x0)) ≤ length (now acc) ⌝ }
-    ensures { λ _. ⌜ now (px .exit) ≡ drawnIn pitch (area x0 y x1 (y + 1)) (inkFrom (now (acc .entry)) ls skip x0 (Linear p0 p1 c0 c1)) (now (px .entry)) ⌝ }
+    ensures { λ n. ⌜ DrewRow pitch y x0 x1 (inkFrom (now (acc .entry)) ls skip x0 (Linear p0 p1 c0 c1)) (now (px .entry)) n (now (px .exit)) ⌝ }
 {
     let row = y * pitch;
     let mut a = run_sum(acc, ls, skip);
+    let mut n = 0;
     for x in x0..x1 {
         a = a + acc[ls + (skip + (x - x0))];
         let cv = cover(a);
         if cv == 0 {
             continue;
         }
-        px[row + x] = line_shade(px[row + x], p0, p1, c0, c1, x, y, cv);
+        let i = row + x;
+        let q = line_shade(px[i], p0, p1, c0, c1, x, y, cv);
+        px[i] = q.value;
+        n += q.altered as u32;
     }
+    n
 }
 
 // The same in one colour.
@@ -145,21 +156,26 @@ fn flat_row(
     ls: usize,
     skip: usize,
     c: Color,
-)
+) -> u32
     requires { ⌜ RowFits pitch y x0 x1 (length (now px)) ⌝ }
     requires { ⌜ ls + (skip + (x1 - x0)) ≤ length (now acc) ⌝ }
-    ensures { λ _. ⌜ now (px .exit) ≡ drawnIn pitch (area x0 y x1 (y + 1)) (inkFrom (now (acc .entry)) ls skip x0 (Solid c)) (now (px .entry)) ⌝ }
+    ensures { λ n. ⌜ DrewRow pitch y x0 x1 (inkFrom (now (acc .entry)) ls skip x0 (Solid c)) (now (px .entry)) n (now (px .exit)) ⌝ }
 {
     let row = y * pitch;
     let mut a = run_sum(acc, ls, skip);
+    let mut n = 0;
     for x in x0..x1 {
         a = a + acc[ls + (skip + (x - x0))];
         let cv = cover(a);
         if cv == 0 {
             continue;
         }
-        px[row + x] = blend_c(px[row + x], c, cv);
+        let i = row + x;
+        let q = blend_c(px[i], c, cv);
+        px[i] = q.value;
+        n += q.altered as u32;
     }
+    n
 }
 
 // The same by the kind of the paint.
@@ -173,10 +189,10 @@ fn sum_row(
     ls: usize,
     skip: usize,
     paint: Paint,
-)
+) -> u32
     requires { ⌜ RowFits pitch y x0 x1 (length (now px)) ⌝ }
     requires { ⌜ ls + (skip + (x1 - x0)) ≤ length (now acc) ⌝ }
-    ensures { λ _. ⌜ now (px .exit) ≡ drawnIn pitch (area x0 y x1 (y + 1)) (inkFrom (now (acc .entry)) ls skip x0 paint) (now (px .entry)) ⌝ }
+    ensures { λ n. ⌜ DrewRow pitch y x0 x1 (inkFrom (now (acc .entry)) ls skip x0 paint) (now (px .entry)) n (now (px .exit)) ⌝ }
 {
     match paint {
         Paint::Solid(c) => flat_row(px, acc, pitch, x0, x1, y, ls, skip, c),
@@ -197,10 +213,10 @@ fn poly_row(
     y: usize,
     g: PolyBox,
     paint: Paint,
-)
+) -> u32
     requires { ⌜ RowFits pitch y x0 x1 (length (now px)) ⌝ }
     requires { ⌜ Room (g .bw) (g .bh) (length (now acc)) × Near g × Over (g .ox) (g .bw) x0 x1 × Over (g .oy) (g .bh) y (y + 1) ⌝ }
-    ensures { λ _. ⌜ now (px .exit) ≡ drawnIn pitch (area x0 y x1 (y + 1)) (inkIn (now (acc .entry)) g paint) (now (px .entry)) ⌝ }
+    ensures { λ n. ⌜ DrewRow pitch y x0 x1 (inkIn (now (acc .entry)) g paint) (now (px .entry)) n (now (px .exit)) ⌝ }
 {
     let ox = g.ox;
     let oy = g.oy;
@@ -208,22 +224,24 @@ fn poly_row(
     let ls = offset(y, oy) * stride;
     let skip = offset(x0, ox);
     let here = paint.in_row(centre(y as u16));
-    sum_row(px, acc, pitch, x0, x1, y, ls, skip, here);
+    sum_row(px, acc, pitch, x0, x1, y, ls, skip, here)
 }
 
 // The rows of an area.
-fn poly_rows(px: &mut [u32], acc: &[f32], pitch: usize, bb: Area, g: PolyBox, paint: Paint)
+fn poly_rows(px: &mut [u32], acc: &[f32], pitch: usize, bb: Area, g: PolyBox, paint: Paint) -> u32
     requires { ⌜ AreaFits pitch bb (length (now px)) ⌝ }
     requires { ⌜ Room (g .bw) (g .bh) (length (now acc)) × Near g × Over (g .ox) (g .bw) (bb .x0) (bb .x1) × Over (g .oy) (g .bh) (bb .y0) (bb .y1) ⌝ }
-    ensures { λ _. ⌜ now (px .exit) ≡ drawnIn pitch bb (inkIn (now (acc .entry)) g paint) (now (px .entry)) ⌝ }
+    ensures { λ n. ⌜ DrewIn pitch bb (inkIn (now (acc .entry)) g paint) (now (px .entry)) n (now (px .exit)) ⌝ }
 {
     let x0 = bb.x0;
     let x1 = bb.x1;
     let y0 = bb.y0;
     let y1 = bb.y1;
+    let mut n = 0;
     for y in y0..y1 {
-        poly_row(px, acc, pitch, x0, x1, y, g, paint);
+        n += poly_row(px, acc, pitch, x0, x1, y, g, paint);
     }
+    n
 }
 
 // The pixels of the box that a clip lets through.
@@ -234,10 +252,10 @@ pub(crate) fn draw_box(
     clip: IRect,
     g: PolyBox,
     paint: Paint,
-)
+) -> u32
     requires { ⌜ AreaFits pitch (clipTo (reachOf g) clip) (length (now px)) ⌝ }
     requires { ⌜ Room (g .bw) (g .bh) (length (now acc)) × Near g ⌝ }
-    ensures { λ _. ⌜ now (px .exit) ≡ drawnIn pitch (clipTo (reachOf g) clip) (inkIn (now (acc .entry)) g paint) (now (px .entry)) ⌝ }
+    ensures { λ n. ⌜ DrewIn pitch (clipTo (reachOf g) clip) (inkIn (now (acc .entry)) g paint) (now (px .entry)) n (now (px .exit)) ⌝ }
 {
     let bb = clipped(reach_of(g), clip);
     let x0 = bb.x0;
@@ -245,10 +263,10 @@ pub(crate) fn draw_box(
     let y0 = bb.y0;
     let y1 = bb.y1;
     if x1 <= x0 {
-        return;
+        return 0;
     }
     if y1 <= y0 {
-        return;
+        return 0;
     }
-    poly_rows(px, acc, pitch, bb, g, paint);
+    poly_rows(px, acc, pitch, bb, g, paint)
 }

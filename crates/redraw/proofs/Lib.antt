@@ -5,3 +5,4 @@ pub mod Lists
 pub mod Rules
 pub mod Sums
 pub mod Measured
+pub mod Busy

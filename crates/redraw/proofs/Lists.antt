@@ -12,6 +12,7 @@ use lib.ListN.{length, getD, replicate, length-replicate, getD-replicate, length
 use lib.Seq.{ext-getD}
 use borrow.Author.Tests.{eqb-true, leb-true}
 use Rattle.redraw.specs.declared.Answer.{Answer}
+use Rattle.redraw.specs.declared.Reply.{Reply}
 use Rattle.geom.specs.declared.IRect.{IRect}
 use Rattle.geom.proofs.Int.{orderZ}
 use Rattle.geom.specs.Box.{inside, hull}
@@ -139,7 +140,7 @@ module _ (F : Format) where
     unfolding patching
     patch-accepted e = by-readings (F .reading old) (F .reading new) refl refl refl e
 
-read-one : {Shape : Type 0} {r : Reading Shape} {a b : Sheet Shape} → r ≡ read a → r ≡ read b → a ≡ b
+pub read-one : {Shape : Type 0} {r : Reading Shape} {a b : Sheet Shape} → r ≡ read a → r ≡ read b → a ≡ b
 read-one p q = cc
 
 drawn-one : {Shape : Type 0} {o : Outcome Shape} {a b : Sheet Shape} {c d : IRect} → o ≡ draws a c → o ≡ draws b d → a ≡ b
@@ -301,7 +302,7 @@ module _ (F : Format) (law : Lawful F) where
 
 module _ {Word : Type 0} (zeroWord : Word) (F : Format) (law : Lawful F) where
   -- an accepted painting shows its sheet
-  pub shown-first : (sheet px : List ℕ) (scratch : List Word) (a : Answer) (px′ : List ℕ) (scratch′ : List Word)
+  pub shown-first : (sheet px : List ℕ) (scratch : List Word) (a : Reply) (px′ : List ℕ) (scratch′ : List Word)
       → Painted zeroWord F sheet px scratch a px′ scratch′
       → accepted (painting F sheet (length px) (length scratch)) ≡ true → Shown F sheet px′
   shown-first sheet px scratch a px′ scratch′ c e =
@@ -327,7 +328,7 @@ module _ {Word : Type 0} (zeroWord : Word) (F : Format) (law : Lawful F) where
         ∙ pixels-drawn (F .kind) (p .to) _ px
 
     area-is : (p : Patches F kept (c .sheet) (length px) (length (c .scratch)))
-        → c .answered .area ≡ hull (canvas (p .to)) (reaches (F .kind .reach) (p .pairs))
+        → c .answered .answer .area ≡ hull (canvas (p .to)) (reaches (F .kind .reach) (p .pairs))
     unfolding answer
     area-is p = ap (λ (a : Answer). a .area) (did .answers ∙ ap answer (p .is))
 
@@ -378,6 +379,8 @@ module _ {Word : Type 0} (zeroWord : Word) (F : Format) (law : Lawful F) where
     unfolding model
     right = record {
       answers = did .answers;
+      steps = did .steps;
+      grounds = did .grounds;
       confined = λ e. confined (patch-accepted F kept (c .sheet) (length px) (length (c .scratch)) e);
       unaltered = λ e. did .paints ∙ refused-px (F .kind) _ px e;
     }
@@ -397,7 +400,7 @@ module _ {Word : Type 0} (zeroWord : Word) (F : Format) (law : Lawful F) where
       (s, right kept px c (f .0), always (keptAfter zeroWord F kept (length px) c) (c .px-left) cs (shown-after kept px c (f .0) s) (f .1))
 
   -- DEMAND 3
-  pub demand-3 : (sheet px : List ℕ) (scratch : List Word) (a : Answer) (px′ : List ℕ) (scratch′ : List Word)
+  pub demand-3 : (sheet px : List ℕ) (scratch : List Word) (a : Reply) (px′ : List ℕ) (scratch′ : List Word)
       → Painted zeroWord F sheet px scratch a px′ scratch′
       → accepted (painting F sheet (length px) (length scratch)) ≡ true
       → (cs : List (Call Word)) → Follow zeroWord F sheet px′ cs → Always zeroWord F sheet px′ cs

@@ -2,19 +2,20 @@
 -- return. `does-refused` and `does-drawn` make the contract of an outcome. Assumes nothing.
 use mathlib.Core.Bool.{true, false, cond}
 use mathlib.Core.List.{List}
-use mathlib.Core.Path.{_≡_, sym, ap, _∙_}
+use mathlib.Core.Path.{_≡_, refl, sym, ap, _∙_}
 use Prim.Native.Nat.{ℕ, _*_, _/_, _%_, _≤_, _<_}
 use lib.IntN.{pos}
 use lib.ListN.{length, replicate, length-replicate, getD-replicate}
 use lib.Seq.{ext-getD}
 use native.Mathlib.Nat.{zero-add}
 use borrow.Author.Tests.{eq-eqb, ne-eqb, le-leb, lt-leb}
-use Rattle.redraw.specs.declared.Answer.{Answer}
+use Rattle.redraw.specs.declared.Reply.{Reply}
+use Rattle.redraw.specs.Counts.{stepsOf, groundsOf}
 use Rattle.geom.specs.declared.IRect.{IRect}
 use Rattle.geom.specs.Box.{noBox, hull}
-use Rattle.redraw.specs.Sheet.{Format, Sheet, Reading, read, refused, Change, other, shapes, change, reaches, Outcome, refuses, draws, few, tooMany, canvas, sameHeader, lent, paintOf, patchBy, patchOf, painting, patching, refusal, answer, pixels, cleared}
+use Rattle.redraw.specs.Sheet.{Format, Sheet, Reading, read, refused, Change, other, shapes, change, reaches, Outcome, refuses, draws, few, tooMany, canvas, sameHeader, lent, paintOf, patchBy, patchOf, painting, patching, answer, pixels, cleared}
 use Rattle.redraw.specs.Drawing.{Kind, groundIn}
-use Rattle.redraw.specs.Calls.{Does}
+use Rattle.redraw.specs.Calls.{refusedBy, Does}
 use Rattle.geom.proofs.Boxes.{in-noBox}
 use Rattle.redraw.proofs.Drawn.{length-each, getD-each, length-drawn, outside-kept}
 use Rattle.redraw.proofs.Lists.{on-canvas, pixels-drawn}
@@ -106,18 +107,15 @@ module _ (F : Format) (old new : List ℕ) (pl sl : ℕ) where
 -- ---- the contract of an outcome that is known
 
 module _ {Word : Type 0} (zeroWord : Word) (F : Format) (px : List ℕ) (scratch : List Word) (o : Outcome (F .kind .Shape)) where
-  pub does-refused : (n k : ℕ) (a : Answer) → o ≡ refuses n k → a ≡ refusal n k → Does zeroWord F o px scratch a px scratch
-  unfolding answer pixels cleared
-  does-refused n k a e r = record {
-    answers = r ∙ ap answer (sym e);
-    paints = ap (λ (q : Outcome (F .kind .Shape)). pixels (F .kind) q px) (sym e);
-    clears = ap (λ (q : Outcome (F .kind .Shape)). cleared zeroWord F q scratch) (sym e);
-  }
+  pub does-refused : (n k : ℕ) (a : Reply) → o ≡ refuses n k → a ≡ refusedBy n k → Does zeroWord F o px scratch a px scratch
+  unfolding answer pixels cleared stepsOf groundsOf
+  does-refused n k a e r = rw (e, r) (record { answers = refl; steps = refl; grounds = refl; paints = refl; clears = refl })
 
-  pub does-drawn : (q : Outcome (F .kind .Shape)) (a : Answer) (px′ : List ℕ) (scratch′ : List Word) → o ≡ q
-      → a ≡ answer q → px′ ≡ pixels (F .kind) q px → scratch′ ≡ cleared zeroWord F q scratch
+  pub does-drawn : (q : Outcome (F .kind .Shape)) (a : Reply) (px′ : List ℕ) (scratch′ : List Word) → o ≡ q
+      → a .answer ≡ answer q → a .steps ≡ stepsOf (F .kind) q px → a .grounded ≡ groundsOf (F .kind) q px
+      → px′ ≡ pixels (F .kind) q px → scratch′ ≡ cleared zeroWord F q scratch
       → Does zeroWord F o px scratch a px′ scratch′
-  does-drawn q a px′ scratch′ e p r c = record { answers = rw e p; paints = rw e r; clears = rw e c }
+  does-drawn q a px′ scratch′ e p s g r c = record { answers = rw e p; steps = rw e s; grounds = rw e g; paints = rw e r; clears = rw e c }
 
 -- ---- what is drawn in the whole canvas, and in no box
 

@@ -7,9 +7,10 @@ use mathlib.Core.Path.{_≡_}
 use Prim.Native.Nat.{ℕ, _/_, _%_, _<_}
 use lib.IntN.{pos}
 use lib.ListN.{length, getD}
-use Rattle.redraw.specs.declared.Answer.{Answer}
+use Rattle.redraw.specs.declared.Reply.{Reply}
 use Rattle.geom.specs.Box.{inside, Smallest}
-use Rattle.redraw.specs.Sheet.{Format, Sheet, read, shapes, change, reaches, Outcome, canvas, painting, patching, answer, pixels, cleared, accepted, fresh}
+use Rattle.redraw.specs.Counts.{stepsOf, groundsOf, freshSteps}
+use Rattle.redraw.specs.Sheet.{Format, Sheet, read, shapes, change, reaches, Outcome, canvas, painting, patching, refusal, answer, pixels, cleared, accepted, fresh}
 
 module _ (F : Format) where
   -- px is the fresh painting of the sheet that some bytes hold
@@ -22,22 +23,28 @@ module _ (F : Format) where
 pub record Call (Word : Type 0) : Type 0 where
   pub sheet : List ℕ
   pub scratch : List Word
-  pub answered : Answer
+  pub answered : Reply
   pub px-left : List ℕ
   pub scratch-left : List Word
 
+-- what a refused call returns
+abbrev pub refusedBy : ℕ → ℕ → Reply
+refusedBy n k = record { answer = refusal n k; steps = 0; grounded = 0 }
+
 module _ {Word : Type 0} (zeroWord : Word) (F : Format) where
   -- what a call with the outcome o returns, and leaves in px and scratch
-  pub record Does (o : Outcome (F .kind .Shape)) (px : List ℕ) (scratch : List Word) (a : Answer) (px′ : List ℕ) (scratch′ : List Word) : Type 0 where
-    pub answers : a ≡ answer o
+  pub record Does (o : Outcome (F .kind .Shape)) (px : List ℕ) (scratch : List Word) (a : Reply) (px′ : List ℕ) (scratch′ : List Word) : Type 0 where
+    pub answers : a .answer ≡ answer o
+    pub steps : a .steps ≡ stepsOf (F .kind) o px
+    pub grounds : a .grounded ≡ groundsOf (F .kind) o px
     pub paints : px′ ≡ pixels (F .kind) o px
     pub clears : scratch′ ≡ cleared zeroWord F o scratch
 
   -- the contract of `paint`, and that of `patch`
-  abbrev pub Painted : (sheet px : List ℕ) (scratch : List Word) (a : Answer) (px′ : List ℕ) (scratch′ : List Word) → Type 0
+  abbrev pub Painted : (sheet px : List ℕ) (scratch : List Word) (a : Reply) (px′ : List ℕ) (scratch′ : List Word) → Type 0
   Painted sheet px scratch a px′ scratch′ = Does (painting F sheet (length px) (length scratch)) px scratch a px′ scratch′
 
-  abbrev pub Patched : (old new px : List ℕ) (scratch : List Word) (a : Answer) (px′ : List ℕ) (scratch′ : List Word) → Type 0
+  abbrev pub Patched : (old new px : List ℕ) (scratch : List Word) (a : Reply) (px′ : List ℕ) (scratch′ : List Word) → Type 0
   Patched old new px scratch a px′ scratch′ = Does (patching F old new (length px) (length scratch)) px scratch a px′ scratch′
 
   -- the model's outcome of a call, by the two sheets and the lengths of px and scratch; and the sheet that the model keeps after it
@@ -63,13 +70,15 @@ module _ {Word : Type 0} (zeroWord : Word) (F : Format) where
     pub reads-old : F .reading kept ≡ read old
     pub reads-new : F .reading (c .sheet) ≡ read new
     pub differ : change (F .same) (old .items) (new .items) ≡ shapes pairs
-    pub smallest : Smallest (canvas new) (reaches (F .kind .reach) pairs) (c .answered .area)
-    pub outside : (i : ℕ) → i < length px → inside (c .answered .area) (pos (i % new .w)) (pos (i / new .w)) ≡ false
+    pub smallest : Smallest (canvas new) (reaches (F .kind .reach) pairs) (c .answered .answer .area)
+    pub outside : (i : ℕ) → i < length px → inside (c .answered .answer .area) (pos (i % new .w)) (pos (i / new .w)) ≡ false
         → getD (c .px-left) i 0 ≡ getD px i 0
 
-  -- what is claimed of one call: the model's number, item and box, and what it altered
+  -- what is claimed of one call: the model's number, item and box, what it altered, and its counts
   pub record Right (kept px : List ℕ) (c : Call Word) : Type 0 where
-    pub answers : c .answered ≡ answer (model kept (length px) c)
+    pub answers : c .answered .answer ≡ answer (model kept (length px) c)
+    pub steps : c .answered .steps ≡ stepsOf (F .kind) (model kept (length px) c) px
+    pub grounds : c .answered .grounded ≡ groundsOf (F .kind) (model kept (length px) c) px
     pub confined : accepted (model kept (length px) c) ≡ true → Confined kept px c
     pub unaltered : accepted (model kept (length px) c) ≡ false → c .px-left ≡ px
 
@@ -78,3 +87,12 @@ module _ {Word : Type 0} (zeroWord : Word) (F : Format) where
   Always kept px [] = Shown F kept px
   Always kept px (c ∷ cs) =
       Shown F kept px × Right kept px c × Always (keptAfter kept (length px) c) (c .px-left) cs
+
+  -- What the counts tell. Those of an accepted painting's shapes hang on its sheet alone, whatever px held; and a call whose two counts are 0
+  -- left px as it was.
+  pub record Busy : Type 0 where
+    pub fresh : (s : Sheet (F .kind .Shape)) (sheet px : List ℕ) (scratch : List Word) (a : Reply) (px′ : List ℕ) (scratch′ : List Word)
+        → Painted sheet px scratch a px′ scratch′ → F .reading sheet ≡ read s → accepted (painting F sheet (length px) (length scratch)) ≡ true
+        → a .steps ≡ freshSteps (F .kind) s
+    pub quiet : (o : Outcome (F .kind .Shape)) (px : List ℕ) (scratch : List Word) (a : Reply) (px′ : List ℕ) (scratch′ : List Word)
+        → Does o px scratch a px′ scratch′ → a .steps ≡ 0 → a .grounded ≡ 0 → px′ ≡ px

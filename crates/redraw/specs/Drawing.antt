@@ -7,6 +7,7 @@ use lib.IntN.{pos}
 use Rattle.geom.specs.declared.IRect.{IRect}
 use Rattle.geom.specs.Box.{inside, meet}
 use Rattle.draw.specs.Draw.{eachAt, drawn}
+use Rattle.draw.specs.Parts.{Part}
 
 -- an item: a push, by its bytes and the box that the clip is cut to; a pop, by its bytes; a shape
 pub data Item (Shape : Type 0) : Type 0 where
@@ -50,11 +51,13 @@ steps [] c = []
 steps (i ∷ r) c = withStep i (c .clip) (steps r (after i c))
 
 -- What a kind of shape is to the theorem: a shape's reach, its box before any clip, and the value that it gives a pixel of its
--- reach, from the column, the row and the value before. One shape may blend a pixel several times.
+-- reach, from the column, the row and the value before. One shape may blend a pixel several times: it is drawn in its parts, one after
+-- the other, and takes one step a part at each pixel.
 pub record Kind : Type 1 where
   pub Shape : Type 0
   pub reach : Shape → IRect
   pub ink : Shape → ℕ → ℕ → ℕ → ℕ
+  pub parts : Shape → List Part
 
 module _ (K : Kind) where
   -- whether the step alters the pixel at column x and row y: it lies in the clip and in the reach

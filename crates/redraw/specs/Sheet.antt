@@ -10,7 +10,8 @@ use lib.ListN.{length, drop, replicate}
 use Rattle.redraw.specs.declared.Answer.{Answer}
 use Rattle.geom.specs.declared.IRect.{IRect}
 use Rattle.geom.specs.Box.{noBox, hull}
-use Rattle.redraw.specs.Drawing.{Item, push, pop, shape, Kind, only, itemsOn, groundIn}
+use Rattle.draw.specs.Parts.{drawnAll}
+use Rattle.redraw.specs.Drawing.{Item, push, pop, shape, Kind, only, shapeOn, itemsOn, groundIn}
 
 -- a sheet that was read
 pub record Sheet (Shape : Type 0) : Type 0 where
@@ -32,10 +33,12 @@ pub record Format : Type 1 where
   pub need : List (Item (kind .Shape)) → ℕ
   pub same : Item (kind .Shape) → Item (kind .Shape) → Bool
 
--- What a format has to prove: items that it calls the same are equal, and no reading is refused by 0.
+-- What a format has to prove: items that it calls the same are equal, no reading is refused by 0, and a shape's parts, drawn one after the
+-- other, are the shape.
 pub record Lawful (F : Format) : Type 0 where
   pub sound : (i j : Item (F .kind .Shape)) → F .same i j ≡ true → i ≡ j
   pub numbered : (sheet : List ℕ) (n k : ℕ) → F .reading sheet ≡ refused n k → 1 ≤ n
+  pub whole : (a : F .kind .Shape) (pitch : ℕ) (c : IRect) (px : List ℕ) → drawnAll pitch c (F .kind .parts a) px ≡ shapeOn (F .kind) pitch c a px
 
 -- ---- how two lists of items differ
 

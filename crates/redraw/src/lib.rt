@@ -10,6 +10,14 @@ pub struct Answer {
     pub area: IRect,
 }
 
+// The same, with the count of shape steps that altered a pixel's value, and of pixels whose value the ground altered.
+#[repr(C)]
+pub struct Reply {
+    pub answer: Answer,
+    pub steps: u64,
+    pub grounded: u64,
+}
+
 // What a sheet takes: the scratch words that it needs, the most clips that it has saved at once, and the pixels in reach and clip together,
 // summed over its shapes; refused, number and item, and three zeros.
 #[repr(C)]

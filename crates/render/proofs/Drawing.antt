@@ -1,5 +1,5 @@
--- The items of an accepted sheet, drawn by the canvas calls, are redraw's `itemsOn`, and the scratch words that they need are +0. Assumes
--- nothing.
+-- The items of an accepted sheet, drawn by the canvas calls, are redraw's `itemsOn`, their steps are its `itemsAlter`, and the scratch words that
+-- they need are +0. Assumes nothing.
 use Prim.Native.Nat.{ℕ, zero, suc, _+_, _≤_, _<_, max}
 use mathlib.Core.Path.{_≡_, refl, sym, ap, _∙_}
 use mathlib.Core.Bool.{true}
@@ -20,13 +20,14 @@ use Rattle.items.specs.declared.Item.the-variants.{Push, Pop, Fill, Stroke, Lin
 use Rattle.items.proofs.Sound.{itemOk}
 use Rattle.redraw.specs.Drawing as drawing
 use Rattle.redraw.specs.Drawing.{push, pop, shape, itemOn, itemsOn}
+use Rattle.redraw.specs.Counts.{itemAlters, itemsAlter}
 use Rattle.redraw.proofs.Items.{length-shape}
 use Rattle.clips.specs.States.{stateAfter}
 use Rattle.clips.proofs.Clips.{clipsOf}
 use Rattle.clips.proofs.Standing.{Standing, item-stands, stands-next, clips-next}
-use Rattle.render.specs.Stages.{Stage, stageAfter, stagesFrom}
+use Rattle.render.specs.Stages.{Stage, stageAfter, stagesFrom, itemSteps, stepsFrom}
 use Rattle.render.proofs.Cleared.{cleared-length, cleared-none, cleared-twice}
-use Rattle.render.proofs.Steps.{px-item, scratch-item}
+use Rattle.render.proofs.Steps.{px-item, scratch-item, steps-item}
 
 -- an item needs what its bytes need
 pub need-in : (b : List ℕ) (i : Item) → itemOf b ≡ i → itemNeed (drawnAs b i) ≡ needOf b i
@@ -88,6 +89,10 @@ module _ (s : List ℕ) (e : sheetCheck s ≡ verdict 0 0) (k : ℕ) (h : k < co
   unfolding stageAfter
   next-px = px-item b c (t .px) opened (t .scratch) (itemOf b) refl ok (room .0)
 
+  next-steps : itemSteps b t ≡ itemAlters kind (up (c .w)) (itemIn b) (c .clip) (t .px)
+  unfolding itemSteps
+  next-steps = steps-item b c (t .px) opened (t .scratch) (itemOf b) refl ok (room .0)
+
   next-scratch : stageAfter b t .scratch ≡ cleared (itemNeed (itemIn b)) (t .scratch)
   unfolding stageAfter
   next-scratch = rw (need-in b (itemOf b) refl) (scratch-item b c (t .px) opened (t .scratch) (itemOf b) ok (room .0))
@@ -110,6 +115,17 @@ module _ (s : List ℕ) (e : sheetCheck s ≡ verdict 0 0) where
       let l : k < countOf s = omega arith in
       drawn-px n (k + 1) (stageAfter (bytesAt s k) t) (omega arith) (next-at s e k l t (itemsFrom s n (k + 1)) a)
       ∙ rw (next-wide s e k l t (itemsFrom s n (k + 1)) a, clips-next s e k l (t .canvas) (a .stands), next-px s e k l t (itemsFrom s n (k + 1)) a)
+
+  pub drawn-steps : (n k : ℕ) (t : Stage) → k + n ≡ countOf s → At s k t (needs (itemsFrom s n k))
+      → stepsFrom s n k t ≡ itemsAlter kind (up (t .canvas .w)) (itemsFrom s n k) (clipsOf (t .canvas)) (t .px)
+  unfolding stepsFrom itemsFrom itemsAlter stageAfter
+  drawn-steps zero k t h a = refl
+  drawn-steps (suc n) k t h a =
+      let l : k < countOf s = omega arith in
+      rw (next-steps s e k l t (itemsFrom s n (k + 1)) a)
+      (ap (λ (m : ℕ). itemAlters kind (up (t .canvas .w)) (itemIn (bytesAt s k)) (t .canvas .clip) (t .px) + m)
+      (drawn-steps n (k + 1) (stageAfter (bytesAt s k) t) (omega arith) (next-at s e k l t (itemsFrom s n (k + 1)) a)
+      ∙ rw (next-wide s e k l t (itemsFrom s n (k + 1)) a, clips-next s e k l (t .canvas) (a .stands), next-px s e k l t (itemsFrom s n (k + 1)) a)))
 
   pub drawn-scratch : (n k : ℕ) (t : Stage) → k + n ≡ countOf s → At s k t (needs (itemsFrom s n k))
       → stagesFrom s n k t .scratch ≡ cleared (needs (itemsFrom s n k)) (t .scratch)

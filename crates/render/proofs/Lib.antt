@@ -1,5 +1,6 @@
 -- The laws of drawing items. Assumes nothing.
-pub mod Turns
 pub mod Cleared
 pub mod Steps
+pub mod Few
+pub mod Turns
 pub mod Drawing

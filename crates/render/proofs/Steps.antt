@@ -1,6 +1,6 @@
--- An item that is in order, drawn by the canvas calls, is drawn as redraw has it: px and scratch. Assumes nothing.
+-- An item that is in order, drawn by the canvas calls, is drawn as redraw has it: px, scratch and steps. Assumes nothing.
 use Prim.Native.Nat.{ℕ, _*_, _%_, _≤_}
-use mathlib.Core.Path.{_≡_, refl}
+use mathlib.Core.Path.{_≡_, refl, sym, ap, _∙_}
 use mathlib.Core.Bool.{Bool, true, _&&_, false≢true}
 use mathlib.Core.List.{List}
 use native.Mathlib.Omega.{arith}
@@ -13,7 +13,9 @@ use Rattle.geom.specs.Plane.{rectOk, ptOk, floatOk}
 use Rattle.geom.specs.declared.IRect.{IRect}
 use Rattle.geom.specs.declared.Pt.{Pt}
 use Rattle.geom.proofs.Bools.{and-left, and-right, and-both}
-use Rattle.draw.specs.Draw.{drawn}
+use Rattle.draw.specs.Draw.{drawn, differ}
+use Rattle.draw.specs.Parts.{part, altersAll}
+use Rattle.draw.proofs.Parts.{one-alters}
 use Rattle.gfx.specs.Calls.{areaOf, left, shapeNumber}
 use Rattle.gfx.specs.Points.{pointsOk, coordsOk, pointsNumber}
 use Rattle.paints.specs.Paints.{paintOk}
@@ -21,18 +23,20 @@ use Rattle.gfx.specs.declared.Canvas.{Canvas}
 use Rattle.paints.specs.declared.Paint.{Paint}
 use Rattle.gfx.proofs.Sizes.{Open}
 use Rattle.line.specs.Lines.{lineOk}
+use Rattle.line.specs.Polylines.{polylineSteps}
 use Rattle.line.proofs.Joints.{polyline-drawn}
 use Rattle.poly.specs.Poly.{polyNumber, polyNeed, polyOk, needIn, cleared}
 use Rattle.poly.proofs.Accepts.{need-in, reach-in}
 use Rattle.sheet.specs.Bytes.{floats}
 use Rattle.items.specs.Items.{itemOf, coordsFrom, pointsOf, jointsOf}
-use Rattle.items.specs.Format.{reachOf, inkOf, needOf, drawnAs, kind}
+use Rattle.items.specs.Format.{reachOf, inkOf, alone, partsOf, needOf, drawnAs, kind}
 use Rattle.items.specs.declared.Item.{Item}
 use Rattle.items.specs.declared.Item.the-variants.{Push, Pop, Fill, Stroke, Line, Poly, Shadow, Chain, Unknown}
 use Rattle.items.proofs.Sound.{itemOk}
 use Rattle.items.proofs.PolyPoints.{coords-length, coords-ok}
 use Rattle.redraw.specs.Drawing as drawing
-use Rattle.render.specs.Stages.{called, chainPx, polyPx, polyScratch, shapePx, shapeScratch}
+use Rattle.redraw.specs.Counts.{itemAlters}
+use Rattle.render.specs.Stages.{called, chainPx, chainSteps, polyPx, polyScratch, shapePx, shapeScratch, shapeSteps}
 
 three : (p q r : Bool) → p && q && r ≡ true → p && (q && r) ≡ true
 three p q r e = and-both (and-left p q (and-left (p && q) r e)) (and-both (and-right p q (and-left (p && q) r e)) (and-right (p && q) r e))
@@ -114,3 +118,24 @@ module _ (b : List ℕ) (c : Canvas) (px : List ℕ) (o : Open c (length px)) (s
   scratch-item (Shadow rect r blur color skip) k h = refl
   scratch-item (Chain width color count) k h = refl
   scratch-item Unknown k h = absurd (false≢true k)
+
+  -- a shape of one part alters the pixels at which px before and after it differ
+  one-step : (i : Item) → itemOf b ≡ i → partsOf b i ≡ alone b i → (qx : List ℕ) → qx ≡ drawing.shapeOn kind (up (c .w)) (c .clip) b px
+      → differ px qx ≡ altersAll (up (c .w)) (c .clip) (kind .parts b) px
+  unfolding drawing.shapeOn
+  one-step i e p qx d = ap (differ px) d ∙ rw (e, p) (sym (one-alters (up (c .w)) (c .clip) (part (reachOf b i) (inkOf b i)) px))
+
+  pub steps-item : (i : Item) → itemOf b ≡ i → itemOk b (c .depth) i ≡ true → needOf b i ≤ length scratch
+      → shapeSteps b i c px (length scratch) ≡ itemAlters kind (up (c .w)) (drawnAs b i) (c .clip) px
+  unfolding shapeSteps shapePx itemOk partsOf drawnAs drawing.itemOn itemAlters chainSteps polylineSteps
+  steps-item (Push rect) e k h = refl
+  steps-item Pop e k h = refl
+  steps-item (Fill rect r paint) e k h = one-step (Fill rect r paint) e refl _ (px-item (Fill rect r paint) e k h)
+  steps-item (Stroke rect r width color) e k h = one-step (Stroke rect r width color) e refl _ (px-item (Stroke rect r width color) e k h)
+  steps-item (Line p q width color) e k h = one-step (Line p q width color) e refl _ (px-item (Line p q width color) e k h)
+  steps-item (Poly paint count) e k h = one-step (Poly paint count) e refl _ (px-item (Poly paint count) e k h)
+  steps-item (Shadow rect r blur color skip) e k h =
+      one-step (Shadow rect r blur color skip) e refl _ (px-item (Shadow rect r blur color skip) e k h)
+  steps-item (Chain width color count) e k h =
+      rw (e, few b 12 count (floatOk width) k, points-accepted b 12 count (floatOk width) k c px o)
+  steps-item Unknown e k h = absurd (false≢true k)

@@ -11,7 +11,7 @@ use Rattle.geom.specs.Int.{up}
 use Rattle.geom.specs.Plane.{floatOk}
 use Rattle.geom.specs.declared.IRect.{IRect}
 use Rattle.color.specs.declared.Color.{Color}
-use Rattle.draw.specs.Draw.{drawn}
+use Rattle.draw.specs.Draw.{drawn, differ}
 use Rattle.gfx.specs.Calls.{left, shapeNumber}
 use Rattle.gfx.specs.Points.{pointsNumber}
 use Rattle.gfx.specs.declared.Canvas.{Canvas}
@@ -19,7 +19,7 @@ use Rattle.paints.specs.declared.Paint.{Paint}
 use Rattle.fill.specs.Fill.{fillReach, fillInk, rrectFloats}
 use Rattle.stroke.specs.Stroke.{strokeReach, strokeInk, strokeOk}
 use Rattle.line.specs.Lines.{lineReach, lineInk, lineOk}
-use Rattle.line.specs.Polylines.{polylined}
+use Rattle.line.specs.Polylines.{polylined, polylineSteps}
 use Rattle.poly.specs.Poly.{polyNumber, polyReach, polyInk, polyNeed, cleared}
 use Rattle.shadow.specs.Shadow.{shadowReach, shadowInk, shadowOk}
 use Rattle.sheet.specs.Check.{bytesAt}
@@ -49,6 +49,12 @@ chainPx b count width color c px =
     let pts = jointsOf b count in
     cond (leb count 64) (left (pointsNumber c (length px) pts (floatOk width)) px (polylined (up (c .w)) (c .clip) pts width color px)) px
 
+-- the steps of that call that alter a pixel's value
+unfoldable pub chainSteps : List ℕ → ℕ → Float → Color → Canvas → List ℕ → ℕ
+chainSteps b count width color c px =
+    let pts = jointsOf b count in
+    cond (leb count 64) (cond (eqb (pointsNumber c (length px) pts (floatOk width)) 0) (polylineSteps (up (c .w)) (c .clip) pts width color px) 0) 0
+
 -- px after an item, where so many scratch words are lent
 unfoldable pub shapePx : List ℕ → Item → Canvas → List ℕ → ℕ → List ℕ
 shapePx b (Push rect) c px words = px
@@ -62,6 +68,18 @@ shapePx b (Shadow rect r blur color skip) c px words =
 shapePx b (Chain width color count) c px words = chainPx b count width color c px
 shapePx b Unknown c px words = px
 
+-- the steps of an item that alter a pixel's value: the places at which px before and after it differ, of a chain those of its lines
+unfoldable pub shapeSteps : List ℕ → Item → Canvas → List ℕ → ℕ → ℕ
+shapeSteps b (Push rect) c px words = 0
+shapeSteps b Pop c px words = 0
+shapeSteps b (Fill rect r paint) c px words = differ px (shapePx b (Fill rect r paint) c px words)
+shapeSteps b (Stroke rect r width color) c px words = differ px (shapePx b (Stroke rect r width color) c px words)
+shapeSteps b (Line a e width color) c px words = differ px (shapePx b (Line a e width color) c px words)
+shapeSteps b (Poly paint count) c px words = differ px (polyPx b count paint c px words)
+shapeSteps b (Shadow rect r blur color skip) c px words = differ px (shapePx b (Shadow rect r blur color skip) c px words)
+shapeSteps b (Chain width color count) c px words = chainSteps b count width color c px
+shapeSteps b Unknown c px words = 0
+
 -- scratch after an item, where n pixels are lent
 unfoldable pub shapeScratch : List ℕ → Item → Canvas → ℕ → List Float → List Float
 shapeScratch b (Push rect) c n scratch = scratch
@@ -74,10 +92,11 @@ shapeScratch b (Shadow rect r blur color skip) c n scratch = scratch
 shapeScratch b (Chain width color count) c n scratch = scratch
 shapeScratch b Unknown c n scratch = scratch
 
--- what is left in px and in scratch
-pub record Left (px : List ℕ) (scratch : List Float) (px′ : List ℕ) (scratch′ : List Float) : Type 0 where
+-- what is left in px and in scratch, and the steps that altered a pixel's value
+pub record Left (px : List ℕ) (scratch : List Float) (steps : ℕ) (px′ : List ℕ) (scratch′ : List Float) (n : ℕ) : Type 0 where
   pub paints : px′ ≡ px
   pub clears : scratch′ ≡ scratch
+  pub counts : n ≡ steps
 
 -- state, px and scratch
 pub record Stage : Type 0 where
@@ -97,3 +116,16 @@ stageAfter b s =
 unfoldable pub stagesFrom : List ℕ → ℕ → ℕ → Stage → Stage
 stagesFrom sheet zero k s = s
 stagesFrom sheet (suc n) k s = stagesFrom sheet n (k + 1) (stageAfter (bytesAt sheet k) s)
+
+-- the steps of these items that alter a pixel's value
+unfoldable pub itemSteps : List ℕ → Stage → ℕ
+itemSteps b s = shapeSteps b (itemOf b) (s .canvas) (s .px) (length (s .scratch))
+
+unfoldable pub stepsFrom : List ℕ → ℕ → ℕ → Stage → ℕ
+stepsFrom sheet zero k s = 0
+stepsFrom sheet (suc n) k s = itemSteps (bytesAt sheet k) s + stepsFrom sheet n (k + 1) (stageAfter (bytesAt sheet k) s)
+
+-- what drawing the item that some bytes are promises
+abbrev pub DrewItem : List ℕ → Canvas → List ℕ → List Float → List ℕ → List Float → ℕ → Type 0
+DrewItem b c px scratch =
+    Left (shapePx b (itemOf b) c px (length scratch)) (shapeScratch b (itemOf b) c (length px) scratch) (itemSteps b (stage c px scratch))

@@ -12,6 +12,7 @@ use native.Mathlib.Nat.{sub-zero}
 use native.Mathlib.Numerals.{add-one}
 use borrow.Author.Tests.{le-leb, lt-leb}
 use Rattle.redraw.specs.declared.Answer.{Answer}
+use Rattle.redraw.specs.declared.Reply.{Reply}
 use Rattle.redraw.specs.Drawing.{Item}
 use Rattle.redraw.specs.Sheet.{Lawful, Reading, read, refused, painting, patching, answer, accepted}
 use Rattle.redraw.specs.Calls.{Shown, Call, Painted, Patched, keptAfter, model}
@@ -21,7 +22,7 @@ use Rattle.items.specs.Format.{kind, format, zeroWord}
 use Rattle.items.proofs.Lawful.{lawful}
 use Rattle.replay.specs.Ran.{part, cut, next, keptOver, lastOver, Advanced, Runs, Replays}
 
-module _ (sheets : List ℕ) (from to at end : ℕ) (px : List ℕ) (scratch : List Float) (a : Answer) (px′ : List ℕ) (scratch′ : List Float)
+module _ (sheets : List ℕ) (from to at end : ℕ) (px : List ℕ) (scratch : List Float) (a : Reply) (px′ : List ℕ) (scratch′ : List Float)
     (did : Patched zeroWord format (part from to sheets) (part at end sheets) px scratch a px′ scratch′) where
   abbrev old : List ℕ
   old = part from to sheets
@@ -43,20 +44,20 @@ module _ (sheets : List ℕ) (from to at end : ℕ) (px : List ℕ) (scratch : L
   scratch-long =
       ap length (did .clears) ∙ length-cleared zeroWord format _ scratch (patch-enough zeroWord format old new (length px) (length scratch))
 
-  next-new : a .number ≡ 0 → new ≡ next format (length px) (length scratch) old new
+  next-new : a .answer .number ≡ 0 → new ≡ next format (length px) (length scratch) old new
   unfolding next
   next-new z =
       let e = zero-accepted (patching format old new (length px) (length scratch)) (patch-numbered format lawful old new (length px) (length scratch)) (ap (λ (b : Answer). b .number) (sym (did .answers)) ∙ z) in
       rw e
 
-  next-old : (a .number ≡ 0 → ⊥) → old ≡ next format (length px) (length scratch) old new
+  next-old : (a .answer .number ≡ 0 → ⊥) → old ≡ next format (length px) (length scratch) old new
   unfolding next
   next-old z =
       let e = other-refused (patching format old new (length px) (length scratch)) (λ q. z (ap (λ (b : Answer). b .number) (did .answers) ∙ q)) in
       rw e
 
-  pub advanced-new : at ≤ end → end ≤ length sheets → a .number ≡ 0
-      → Advanced format sheets from to at end px scratch (record { answer = a; from = at; to = end }) px′ scratch′
+  pub advanced-new : at ≤ end → end ≤ length sheets → a .answer .number ≡ 0
+      → Advanced format sheets from to at end px scratch (record { answer = a .answer; from = at; to = end }) px′ scratch′
   advanced-new h k z = record {
     start = h;
     stop = k;
@@ -67,8 +68,8 @@ module _ (sheets : List ℕ) (from to at end : ℕ) (px : List ℕ) (scratch : L
     shows = λ s. rw (next-new z) (after s);
   }
 
-  pub advanced-old : from ≤ to → to ≤ length sheets → (a .number ≡ 0 → ⊥)
-      → Advanced format sheets from to at end px scratch (record { answer = a; from = from; to = to }) px′ scratch′
+  pub advanced-old : from ≤ to → to ≤ length sheets → (a .answer .number ≡ 0 → ⊥)
+      → Advanced format sheets from to at end px scratch (record { answer = a .answer; from = from; to = to }) px′ scratch′
   advanced-old h k z = record {
     start = h;
     stop = k;
@@ -167,17 +168,17 @@ module _ (sheets lens : List ℕ) (s₀ : Replayed) (at₀ : ℕ) (px₀ : List 
 
 -- ---- `replay`: an accepted painting, and then the loop
 
-module _ (sheets : List ℕ) (first : ℕ) (lens px : List ℕ) (scratch : List Float) (a : Answer) (px₁ : List ℕ) (scratch₁ : List Float)
+module _ (sheets : List ℕ) (first : ℕ) (lens px : List ℕ) (scratch : List Float) (a : Reply) (px₁ : List ℕ) (scratch₁ : List Float)
     (did : Painted zeroWord format (take first sheets) px scratch a px₁ scratch₁)
     (yes : accepted (painting format (take first sheets) (length px) (length scratch)) ≡ true) where
-  pub painted-zero : a .number ≡ 0
+  pub painted-zero : a .answer .number ≡ 0
   painted-zero = ap (λ (b : Answer). b .number) (did .answers) ∙ accepted-zero _ yes
 
   whole : part 0 first sheets ≡ take first sheets
   whole = rw sub-zero
 
   pub replays : (r : Replayed) (px₂ : List ℕ)
-      → Runs format sheets first lens (record { answer = a; from = 0; to = first }) px₁ (length scratch₁) r px₂
+      → Runs format sheets first lens (record { answer = a .answer; from = 0; to = first }) px₁ (length scratch₁) r px₂
       → Replays format sheets first lens (length px) (length scratch) r px₂
   replays r px₂ runs =
       let n : length px₁ ≡ length px = ap length (did .paints) ∙ length-pixels kind _ px in

@@ -1,8 +1,13 @@
--- Demand 3 holds. Assumes nothing.
+-- Demand 3 holds, and so does what the counts tell. Assumes nothing.
 use Rattle.items.specs.Format.{format, zeroWord}
 use Rattle.items.proofs.Lawful.{lawful}
+use Rattle.redraw.specs.Calls.{Busy}
 use Rattle.redraw.proofs.Lists as lists
+use Rattle.redraw.proofs.Busy as counts
 use Rattle.replay.specs.Demand3.{Demand3}
 
 pub demand-3 : Demand3
 demand-3 = lists.demand-3 zeroWord format lawful
+
+pub busy : Busy zeroWord format
+busy = counts.busy zeroWord format lawful

@@ -15,7 +15,8 @@ use Rattle.geom.specs.Plane.{rectOf, floatOk, noArea, outerOf}
 use Rattle.color.specs.Inks.{blended, coveredBy, over, overC}
 use Rattle.color.specs.Colours.{rgbaOf}
 use Rattle.color.specs.Examples.{ink-127, ink-128, red-128, alpha-0, alpha-1, cover-128}
-use Rattle.draw.specs.Draw.{eachAt, onto, meets, drawn, inColumns}
+use Rattle.draw.specs.Draw.{eachAt, onto, meets, drawn, differ, inColumns}
+use Rattle.draw.specs.Parts.{altersAll}
 use Rattle.paints.specs.Paints.{paintAt, radiusOf, cornerSd, rrectSd, cov8Of}
 use Rattle.paints.specs.declared.Paint.the-variants.{Solid}
 use Rattle.fill.specs.Examples.{half-white-and-red}
@@ -25,8 +26,9 @@ use Rattle.sheet.specs.Kinds.{layoutAt, lengthOk, pointsOk, paintBytesOk, bytes
 use Rattle.sheet.specs.Check as checks
 use Rattle.sheet.specs.Check.{headerOk, pairsFrom, pairsOk, headNumber, numberAt, depthAt, sheetCheck}
 use Rattle.items.specs.Items.{readPaint, readItem}
-use Rattle.items.specs.Format.{reachOf, inkOf, needOf, drawnAs, itemsFrom, itemNeed, needs, sameBytes, sameBox, sameItem, reading, kind, format}
+use Rattle.items.specs.Format.{reachOf, inkOf, partsOf, needOf, drawnAs, itemsFrom, itemNeed, needs, sameBytes, sameBox, sameItem, reading, kind, format}
 use Rattle.redraw.specs.Drawing.{after, shapeOn, itemOn, itemsOn, groundIn}
+use Rattle.redraw.specs.Counts.{itemAlters, itemsAlter, stepsOf, groundsOf}
 use Rattle.redraw.specs.Sheet.{canvas, sameHeader, few, tooMany, withPair, bothShapes, change, reaches, lent, paintOf, patchBy, patchOf, painting, patching, answer, pixels}
 
 -- 0, 1 and 2 as the bytes of floats
@@ -52,6 +54,15 @@ pub moved :
     × (pixels kind (patching format (red zero) (red two) 4 0) (0x00ff_0000 ∷ 0 ∷ 0 ∷ 0 ∷ []) ≡ 0 ∷ 0 ∷ 0x00ff_0000 ∷ 0 ∷ [])
 unfolding painting paintOf patching patchOf patchBy lent reading sheetCheck checks.itemsFrom numberAt depthAt headNumber headerOk pairsOk pairsFrom itemNumber savedOk floatsOk paintFloatsOk bytesOk paintBytesOk pointsOk lengthOk layoutAt allAt floatOk itemsFrom drawnAs readItem readPaint reachOf inkOf needOf itemNeed needs sameItem sameBytes sameBox sameHeader change bothShapes withPair few tooMany reaches canvas joinAll join around empty meet maxZ minZ noBox answer pixels itemsOn itemOn shapeOn after groundIn drawn onto eachAt meets inside inColumns fillReach noArea outerOf middle coverOf rimInk middleInk roundInk paintAt radiusOf rrectSd cornerSd cov8Of blended coveredBy floorOf ceilOf ofBits round add sub mul ofInt lt le eq ne neg toSigned toUnsigned
 moved = (refl, refl, refl)
+
+-- what the two calls count: the painting on four words of 7, and the patch on what it left
+pub counted :
+    (stepsOf kind (painting format (red zero) 4 0) (7 ∷ 7 ∷ 7 ∷ 7 ∷ []) ≡ 1)
+    × (groundsOf kind (painting format (red zero) 4 0) (7 ∷ 7 ∷ 7 ∷ 7 ∷ []) ≡ 4)
+    × (stepsOf kind (patching format (red zero) (red two) 4 0) (0x00ff_0000 ∷ 0 ∷ 0 ∷ 0 ∷ []) ≡ 1)
+    × (groundsOf kind (patching format (red zero) (red two) 4 0) (0x00ff_0000 ∷ 0 ∷ 0 ∷ 0 ∷ []) ≡ 1)
+unfolding painting paintOf patching patchOf patchBy lent reading sheetCheck checks.itemsFrom numberAt depthAt headNumber headerOk pairsOk pairsFrom itemNumber savedOk floatsOk paintFloatsOk bytesOk paintBytesOk pointsOk lengthOk layoutAt allAt floatOk itemsFrom drawnAs readItem readPaint reachOf inkOf needOf itemNeed needs sameItem sameBytes sameBox sameHeader change bothShapes withPair few tooMany reaches canvas joinAll join around empty meet maxZ minZ noBox itemOn shapeOn after groundIn stepsOf groundsOf itemsAlter itemAlters altersAll partsOf differ drawn onto eachAt meets inside inColumns fillReach noArea outerOf middle coverOf rimInk middleInk roundInk paintAt radiusOf rrectSd cornerSd cov8Of blended coveredBy floorOf ceilOf ofBits round add sub mul ofInt lt le eq ne neg toSigned toUnsigned
+counted = (refl, refl, refl, refl)
 
 -- every starred example of document 01, in its order
 pub starred :

@@ -31,7 +31,7 @@ fn advance(
     requires { ⌜ (from ≤ to) × (to ≤ length (now sheets)) × (at ≤ end) × (end ≤ length (now sheets)) ⌝ }
     ensures { λ r. ⌜ Advanced format (now (sheets .entry)) from to at end (now (px .entry)) (now (scratch .entry)) r (now (px .exit)) (now (scratch .exit)) ⌝ }
 {
-    let a = patch(&sheets[from..to], &sheets[at..end], px, scratch);
+    let a = patch(&sheets[from..to], &sheets[at..end], px, scratch).answer;
     let n = a.number;
     if n == 0 {
         return Replayed {
@@ -91,14 +91,14 @@ pub fn replay(
         → Replays format (now (sheets .entry)) first (now (lens .entry)) (length (now (px .entry))) (length (now (scratch .entry))) r (now (px .exit))) ⌝ }
 {
     if sheets.len() < first {
-        let none = refusal(1, 0);
+        let none = refusal(1, 0).answer;
         return Replayed {
             answer: none,
             from: 0,
             to: 0,
         };
     }
-    let a = paint(&sheets[..first], px, scratch);
+    let a = paint(&sheets[..first], px, scratch).answer;
     let n = a.number;
     let state = Replayed {
         answer: a,

@@ -8,10 +8,10 @@ ghost use lib.ListN.{length};
 ghost use Rattle.io.specs.Counts.{Counts};
 
 // Zeros, as many as any stored file has bytes.
-fn buffer() -> [u8; 400000]
-    ensures { λ r. ⌜ 400000 ≡ length r ⌝ }
+fn buffer() -> [u8; 420000]
+    ensures { λ r. ⌜ 420000 ≡ length r ⌝ }
 {
-    [0; 400000]
+    [0; 420000]
 }
 
 // Reads a file; no bytes where it is missing.

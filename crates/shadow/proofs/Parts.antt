@@ -8,7 +8,7 @@ use lib.IntN.{ℤ}
 use Rattle.mathf.specs.F32.{_-ᶠ_, _≤ᶠ_, f0}
 use Rattle.geom.specs.Int.{up}
 use Rattle.draw.specs.Draw.{inColumns}
-use Rattle.draw.specs.Areas.{drawnIn, area}
+use Rattle.draw.specs.Areas.{DrewRow}
 use Rattle.draw.proofs.Loops.{row-clamped}
 use Rattle.draw.proofs.Clips.{in-columns}
 use Rattle.paints.specs.Paints.{centreOf}
@@ -20,10 +20,10 @@ use Rattle.shadow.specs.Spans.{flatInk, straightInk, cornerInk, straight
 module _ (f g m : ℕ → ℕ → ℕ → ℕ) (lo hi : ℤ) (y : ℕ)
     (out : (x p : ℕ) → inColumns lo hi x ≡ false → g x y p ≡ f x y p)
     (in′ : (x p : ℕ) → inColumns lo hi x ≡ true → m x y p ≡ f x y p) where
-  pub parts : (w x0 x1 le rs a b : ℕ) (px px₁ px₂ px₃ : List ℕ) → x0 ≤ x1 → le ≡ up lo → rs ≡ up hi
+  pub parts : (w x0 x1 le rs a b : ℕ) (px px₁ px₂ px₃ : List ℕ) {n₁ n₂ n₃ : ℕ} → x0 ≤ x1 → le ≡ up lo → rs ≡ up hi
       → a ≡ max x0 (min le x1) → b ≡ max a (min rs x1)
-      → px₁ ≡ drawnIn w (area x0 y a (y + 1)) g px → px₂ ≡ drawnIn w (area a y b (y + 1)) m px₁ → px₃ ≡ drawnIn w (area b y x1 (y + 1)) g px₂
-      → px₃ ≡ drawnIn w (area x0 y x1 (y + 1)) f px
+      → DrewRow w y x0 a g px n₁ px₁ → DrewRow w y a b m px₁ n₂ px₂ → DrewRow w y b x1 g px₂ n₃ px₃
+      → DrewRow w y x0 x1 f px (n₁ + n₂ + n₃) px₃
   parts w x0 x1 le rs a b px px₁ px₂ px₃ o el er ea eb d₁ d₂ d₃ =
       row-clamped w f g m y x0 x1 le rs a b px px₁ px₂ px₃ o ea eb d₁ d₂ d₃
       (λ x p h. out x p (in-columns lo hi x ∙ rw (← el, ← er) h))

@@ -11,7 +11,7 @@ use geom::Rect;
 use geom::floats_ok;
 use geom::nat_of;
 use gfx::Canvas;
-use gfx::Done;
+use gfx::Counted;
 use paints::Rounded;
 use paints::centre;
 ghost use mathlib.Core.Path.{_≡_};
@@ -22,8 +22,8 @@ ghost use Rattle.mathf.specs.Root.{sqrtOf};
 ghost use Rattle.geom.specs.Int.{up};
 ghost use Rattle.draw.specs.Draw.{drawn};
 ghost use Rattle.draw.specs.Held.{Holds};
-ghost use Rattle.draw.specs.Areas.{drawnIn, area, RowFits, AreaFits};
-ghost use Rattle.gfx.specs.Calls.{Called, shapeNumber};
+ghost use Rattle.draw.specs.Areas.{RowFits, AreaFits, DrewRow, DrewIn};
+ghost use Rattle.gfx.specs.Calls.{ShapeCalled, shapeNumber};
 ghost use Rattle.paints.specs.Paints.{centreOf};
 ghost use Rattle.shadow.specs.Shadow.{shadowOk, shadowReach, levelOf, table, stepsOut, alphaOf, rowDy, rowQy, straightFrom, straightUpto, straightMiddle, straightSide, cornerFrom, cornerUpto, cornerSide, shadeInk, shadowInk};
 ghost use Rattle.shadow.specs.Spans.{Faded, Table, columnAlpha, sideAlpha, eachInk, tableAlpha, flatInk, straightInk, cornerInk, straightRowInk, cornerRowInk};
@@ -156,15 +156,19 @@ fn straight_middle(lut: &[u32; 97], h: Shade, skip: bool, sdy: f32) -> u32
 }
 
 // A part of row y at one alpha.
-fn flat_span(px: &mut [u32], w: usize, y: usize, x0: usize, x1: usize, c: Color, v: u32)
+fn flat_span(px: &mut [u32], w: usize, y: usize, x0: usize, x1: usize, c: Color, v: u32) -> u32
     requires { ⌜ RowFits w y x0 x1 (length (now px)) ⌝ }
-    ensures { λ _. ⌜ now (px .exit) ≡ drawnIn w (area x0 y x1 (y + 1)) (flatInk c v) (now (px .entry)) ⌝ }
+    ensures { λ n. ⌜ DrewRow w y x0 x1 (flatInk c v) (now (px .entry)) n (now (px .exit)) ⌝ }
 {
     let row = y * w;
+    let mut n = 0;
     for x in x0..x1 {
         let i = row + x;
-        px[i] = over(px[i], c, v);
+        let q = over(px[i], c, v);
+        px[i] = q.value;
+        n += q.altered as u32;
     }
+    n
 }
 
 // A part of row y beside the middle of a straight row; `v` is the alpha by the row's own distance.
@@ -178,18 +182,22 @@ fn straight_span(
     h: Shade,
     sdy: f32,
     v: u32,
-)
+) -> u32
     requires { ⌜ RowFits w y x0 x1 (length (now px)) ⌝ }
     requires { ⌜ Holds (columnAlpha h) x0 x1 (now cols) ⌝ }
     requires { ⌜ v ≡ alphaOf (h .c .a) (h .blur) sdy ⌝ }
-    ensures { λ _. ⌜ now (px .exit) ≡ drawnIn w (area x0 y x1 (y + 1)) (straightInk (h .s) (h .blur) (h .c) sdy) (now (px .entry)) ⌝ }
+    ensures { λ n. ⌜ DrewRow w y x0 x1 (straightInk (h .s) (h .blur) (h .c) sdy) (now (px .entry)) n (now (px .exit)) ⌝ }
 {
     let row = y * w;
+    let mut n = 0;
     for x in x0..x1 {
         let a = straight_side(h, sdy, x, cols[x], v);
         let i = row + x;
-        px[i] = over_wide(px[i], h.c, a);
+        let q = over_wide(px[i], h.c, a);
+        px[i] = q.value;
+        n += q.altered as u32;
     }
+    n
 }
 
 // The alphas of n columns from x0 on of any other row, beside its middle.
@@ -214,16 +222,20 @@ fn each_span(
     x0: usize,
     x1: usize,
     c: Color,
-)
+) -> u32
     requires { ⌜ RowFits w y x0 x1 (length (now px)) ⌝ }
     requires { ⌜ x1 ≤ x0 + 128 ⌝ }
-    ensures { λ _. ⌜ now (px .exit) ≡ drawnIn w (area x0 y x1 (y + 1)) (eachInk c x0 (now (alphas .entry))) (now (px .entry)) ⌝ }
+    ensures { λ n. ⌜ DrewRow w y x0 x1 (eachInk c x0 (now (alphas .entry))) (now (px .entry)) n (now (px .exit)) ⌝ }
 {
     let row = y * w;
+    let mut n = 0;
     for x in x0..x1 {
         let i = row + x;
-        px[i] = over_wide(px[i], c, alphas[x - x0]);
+        let q = over_wide(px[i], c, alphas[x - x0]);
+        px[i] = q.value;
+        n += q.altered as u32;
     }
+    n
 }
 
 // At most 128 columns of row y beside the middle of any other row: their alphas first, then all pixels.
@@ -236,14 +248,14 @@ fn corner_part(
     x1: usize,
     h: Shade,
     qy: f32,
-)
+) -> u32
     requires { ⌜ RowFits w y x0 x1 (length (now px)) ⌝ }
     requires { ⌜ Table h (now lut) ⌝ }
     requires { ⌜ x1 ≤ x0 + 128 ⌝ }
-    ensures { λ _. ⌜ now (px .exit) ≡ drawnIn w (area x0 y x1 (y + 1)) (cornerInk (h .s) (h .blur) (h .c) qy) (now (px .entry)) ⌝ }
+    ensures { λ n. ⌜ DrewRow w y x0 x1 (cornerInk (h .s) (h .blur) (h .c) qy) (now (px .entry)) n (now (px .exit)) ⌝ }
 {
     let alphas = corner_alphas(lut, x0, x1 - x0, h, qy);
-    each_span(px, &alphas, w, y, x0, x1, h.c);
+    each_span(px, &alphas, w, y, x0, x1, h.c)
 }
 
 // A part of row y beside the middle of any other row.
@@ -256,17 +268,19 @@ fn corner_span(
     x1: usize,
     h: Shade,
     qy: f32,
-)
+) -> u32
     requires { ⌜ RowFits w y x0 x1 (length (now px)) ⌝ }
     requires { ⌜ Table h (now lut) ⌝ }
-    ensures { λ _. ⌜ now (px .exit) ≡ drawnIn w (area x0 y x1 (y + 1)) (cornerInk (h .s) (h .blur) (h .c) qy) (now (px .entry)) ⌝ }
+    ensures { λ n. ⌜ DrewRow w y x0 x1 (cornerInk (h .s) (h .blur) (h .c) qy) (now (px .entry)) n (now (px .exit)) ⌝ }
 {
     let mut x = x0;
+    let mut n = 0;
     while x < x1 {
         let next = between(x + 128, x, x1);
-        corner_part(px, lut, w, y, x, next, h, qy);
+        n += corner_part(px, lut, w, y, x, next, h, qy);
         x = next;
     }
+    n
 }
 
 // The middle columns of a straight row, and of any other: the first, and the first past them.
@@ -306,19 +320,20 @@ fn straight_row(
     h: Shade,
     skip: bool,
     sdy: f32,
-)
+) -> u32
     requires { ⌜ RowFits w y x0 x1 (length (now px)) ⌝ }
     requires { ⌜ Table h (now lut) ⌝ }
     requires { ⌜ Holds (columnAlpha h) x0 x1 (now cols) ⌝ }
-    ensures { λ _. ⌜ now (px .exit) ≡ drawnIn w (area x0 y x1 (y + 1)) (straightRowInk h skip sdy) (now (px .entry)) ⌝ }
+    ensures { λ n. ⌜ DrewRow w y x0 x1 (straightRowInk h skip sdy) (now (px .entry)) n (now (px .exit)) ⌝ }
 {
     let a = between(straight_from(h.s, h.blur), x0, x1);
     let b = between(straight_upto(h.s, h.blur), a, x1);
     let m = straight_middle(lut, h, skip, sdy);
     let v = alpha_of(lut, h.c.a, h.blur, h.scale, sdy);
-    straight_span(px, cols, w, y, x0, a, h, sdy, v);
-    flat_span(px, w, y, a, b, h.c, m);
-    straight_span(px, cols, w, y, b, x1, h, sdy, v);
+    let left = straight_span(px, cols, w, y, x0, a, h, sdy, v);
+    let middle = flat_span(px, w, y, a, b, h.c, m);
+    let right = straight_span(px, cols, w, y, b, x1, h, sdy, v);
+    left + middle + right
 }
 
 // Row y where it is not.
@@ -331,17 +346,18 @@ fn corner_row(
     x1: usize,
     h: Shade,
     qy: f32,
-)
+) -> u32
     requires { ⌜ RowFits w y x0 x1 (length (now px)) ⌝ }
     requires { ⌜ Table h (now lut) ⌝ }
-    ensures { λ _. ⌜ now (px .exit) ≡ drawnIn w (area x0 y x1 (y + 1)) (cornerRowInk h qy) (now (px .entry)) ⌝ }
+    ensures { λ n. ⌜ DrewRow w y x0 x1 (cornerRowInk h qy) (now (px .entry)) n (now (px .exit)) ⌝ }
 {
     let a = between(corner_from(h.s), x0, x1);
     let b = between(corner_upto(h.s), a, x1);
     let v = alpha_of(lut, h.c.a, h.blur, h.scale, qy - h.s.r);
-    corner_span(px, lut, w, y, x0, a, h, qy);
-    flat_span(px, w, y, a, b, h.c, v);
-    corner_span(px, lut, w, y, b, x1, h, qy);
+    let left = corner_span(px, lut, w, y, x0, a, h, qy);
+    let middle = flat_span(px, w, y, a, b, h.c, v);
+    let right = corner_span(px, lut, w, y, b, x1, h, qy);
+    left + middle + right
 }
 
 // Row y.
@@ -355,18 +371,18 @@ fn shade_row(
     x1: usize,
     h: Shade,
     skip: bool,
-)
+) -> u32
     requires { ⌜ RowFits w y x0 x1 (length (now px)) ⌝ }
     requires { ⌜ Table h (now lut) ⌝ }
     requires { ⌜ Holds (columnAlpha h) x0 x1 (now cols) ⌝ }
-    ensures { λ _. ⌜ now (px .exit) ≡ drawnIn w (area x0 y x1 (y + 1)) (shadeInk (h .s) (h .blur) (h .c) skip) (now (px .entry)) ⌝ }
+    ensures { λ n. ⌜ DrewRow w y x0 x1 (shadeInk (h .s) (h .blur) (h .c) skip) (now (px .entry)) n (now (px .exit)) ⌝ }
 {
     let dy = mathf::fabs(centre(y as u16) - h.s.cy);
     let qy = dy - (h.s.hh - h.s.r);
     if qy <= 0.0 {
-        straight_row(px, lut, cols, w, y, x0, x1, h, skip, dy - h.s.hh);
+        straight_row(px, lut, cols, w, y, x0, x1, h, skip, dy - h.s.hh)
     } else {
-        corner_row(px, lut, w, y, x0, x1, h, qy);
+        corner_row(px, lut, w, y, x0, x1, h, qy)
     }
 }
 
@@ -379,25 +395,36 @@ fn shade_box(
     b: Area,
     h: Shade,
     skip: bool,
-)
+) -> u32
     requires { ⌜ AreaFits w b (length (now px)) ⌝ }
     requires { ⌜ Table h (now lut) ⌝ }
     requires { ⌜ Holds (columnAlpha h) (b .x0) (b .x1) (now cols) ⌝ }
-    ensures { λ _. ⌜ now (px .exit) ≡ drawnIn w b (shadeInk (h .s) (h .blur) (h .c) skip) (now (px .entry)) ⌝ }
+    ensures { λ n. ⌜ DrewIn w b (shadeInk (h .s) (h .blur) (h .c) skip) (now (px .entry)) n (now (px .exit)) ⌝ }
 {
     let x0 = b.x0;
     let x1 = b.x1;
     let y0 = b.y0;
     let y1 = b.y1;
+    let mut n = 0;
     for y in y0..y1 {
-        shade_row(px, lut, cols, w, y, x0, x1, h, skip);
+        n += shade_row(px, lut, cols, w, y, x0, x1, h, skip);
     }
+    n
 }
 
 // An area of the shadow of a rectangle: what its rows share is worked out first.
-fn shade_all(px: &mut [u32], w: usize, b: Area, rect: Rect, r: f32, blur: f32, c: Color, skip: bool)
+fn shade_all(
+    px: &mut [u32],
+    w: usize,
+    b: Area,
+    rect: Rect,
+    r: f32,
+    blur: f32,
+    c: Color,
+    skip: bool,
+) -> u32
     requires { ⌜ AreaFits w b (length (now px)) ⌝ }
-    ensures { λ _. ⌜ now (px .exit) ≡ drawnIn w b (shadowInk rect r blur c skip) (now (px .entry)) ⌝ }
+    ensures { λ n. ⌜ DrewIn w b (shadowInk rect r blur c skip) (now (px .entry)) n (now (px .exit)) ⌝ }
 {
     let lut = falloff(c.a);
     let scale = 96.0 / (2.0 * blur);
@@ -411,7 +438,7 @@ fn shade_all(px: &mut [u32], w: usize, b: Area, rect: Rect, r: f32, blur: f32, c
         c,
     };
     let cols = columns(&lut, h, b.x0, b.x1);
-    shade_box(px, &lut, &cols, w, b, h, skip);
+    shade_box(px, &lut, &cols, w, b, h, skip)
 }
 
 // The same, where the area has rows.
@@ -424,13 +451,14 @@ fn shade_area(
     blur: f32,
     c: Color,
     skip: bool,
-)
+) -> u32
     requires { ⌜ AreaFits w b (length (now px)) ⌝ }
-    ensures { λ _. ⌜ now (px .exit) ≡ drawnIn w b (shadowInk rect r blur c skip) (now (px .entry)) ⌝ }
+    ensures { λ n. ⌜ DrewIn w b (shadowInk rect r blur c skip) (now (px .entry)) n (now (px .exit)) ⌝ }
 {
     if b.y0 < b.y1 {
-        shade_all(px, w, b, rect, r, blur, c, skip);
+        return shade_all(px, w, b, rect, r, blur, c, skip);
     }
+    0
 }
 
 // The soft shadow of a rounded rectangle; `blur` is half the width of its falloff.
@@ -442,17 +470,25 @@ pub fn shadow_rrect(
     blur: f32,
     color: Color,
     skip: bool,
-) -> Done
-    ensures { λ d. ⌜ Called (shapeNumber canvas (length (now (px .entry))) (shadowOk rect r blur)) canvas canvas (now (px .entry)) (drawn (up (canvas .w)) (canvas .clip) (shadowReach rect blur color) (shadowInk rect r blur color skip) (now (px .entry))) d (now (px .exit)) ⌝ }
+) -> Counted
+    ensures { λ d. ⌜ ShapeCalled (shapeNumber canvas (length (now (px .entry))) (shadowOk rect r blur)) canvas (now (px .entry)) (drawn (up (canvas .w)) (canvas .clip) (shadowReach rect blur color) (shadowInk rect r blur color skip) (now (px .entry))) d (now (px .exit)) ⌝ }
 {
     let ok = rect.in_range() & floats_ok(r, blur);
     let number = canvas.shape_number(px.len(), ok);
     if number != 0 {
-        return Done { number, canvas };
+        return Counted {
+            number,
+            canvas,
+            steps: 0,
+        };
     }
     let w = nat_of(canvas.w);
     let clip = canvas.clip;
     let b = clipped(shadow_reach(rect, blur, color), clip);
-    shade_area(px, w, b, rect, r, blur, color, skip);
-    Done { number, canvas }
+    let steps = shade_area(px, w, b, rect, r, blur, color, skip) as u64;
+    Counted {
+        number,
+        canvas,
+        steps,
+    }
 }

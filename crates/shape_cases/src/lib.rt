@@ -1,6 +1,6 @@
 // Shape calls: a case has the function, two sides, four words of clip, the paint's kind or `skip_inside`, four floats and two colours of a
 // paint, a radius, a width or blur, the count of coordinates, 12 of them, the count, base and step of the pixels, the words of scratch that
-// are left +0, 64 pixels, and the number. Coordinates past the 12 are the words that follow.
+// are left +0, 64 pixels, the number, and the steps that altered a pixel's value. Coordinates past the 12 are the words that follow.
 use cases::canvas::framed;
 use cases::canvas::none_saved;
 use cases::canvas::same_state;
@@ -15,7 +15,7 @@ use cases::word::word;
 use color::Color;
 use geom::Rect;
 use gfx::Canvas;
-use gfx::Done;
+use gfx::Counted;
 use paints::Paint;
 ghost use mathlib.Core.Path.{_≡_};
 ghost use lib.ListN.{length};
@@ -36,16 +36,26 @@ fn place(case: &[u8]) -> Rect {
     rect(from(case, 17))
 }
 
-// The number of a call, or 99 where it does not leave the state as it was.
-fn answer(d: Done, case: &[u8]) -> u32 {
-    if same_state(d.canvas, canvas(case)) {
+// What a shape call tells: its number, or 99 where it does not leave the state as it was, and its steps that altered a pixel's value.
+#[repr(C)]
+pub struct Told {
+    pub number: u32,
+    pub steps: u64,
+}
+
+fn answer(d: Counted, case: &[u8]) -> Told {
+    let number = if same_state(d.canvas, canvas(case)) {
         d.number
     } else {
         99
+    };
+    Told {
+        number,
+        steps: d.steps,
     }
 }
 
-fn lined(case: &[u8], px: &mut [u32]) -> u32 {
+fn lined(case: &[u8], px: &mut [u32]) -> Told {
     let width = float(case, 15);
     let a = point(from(case, 17));
     let b = point(from(case, 19));
@@ -53,7 +63,7 @@ fn lined(case: &[u8], px: &mut [u32]) -> u32 {
     answer(line::line(canvas(case), px, a, b, width, ink), case)
 }
 
-fn outlined(case: &[u8], px: &mut [u32]) -> u32 {
+fn outlined(case: &[u8], px: &mut [u32]) -> Told {
     let r = float(case, 14);
     let width = float(case, 15);
     let ink = ink(case);
@@ -64,7 +74,7 @@ fn outlined(case: &[u8], px: &mut [u32]) -> u32 {
     )
 }
 
-fn ringed(case: &[u8], px: &mut [u32]) -> u32 {
+fn ringed(case: &[u8], px: &mut [u32]) -> Told {
     let r = float(case, 14);
     let width = float(case, 15);
     let c = point(from(case, 17));
@@ -75,7 +85,7 @@ fn ringed(case: &[u8], px: &mut [u32]) -> u32 {
     )
 }
 
-fn shadowed(case: &[u8], px: &mut [u32]) -> u32 {
+fn shadowed(case: &[u8], px: &mut [u32]) -> Told {
     let skip = word(case, 7) == 1;
     let r = float(case, 14);
     let blur = float(case, 15);
@@ -87,20 +97,20 @@ fn shadowed(case: &[u8], px: &mut [u32]) -> u32 {
     )
 }
 
-fn rounded(case: &[u8], px: &mut [u32]) -> u32 {
+fn rounded(case: &[u8], px: &mut [u32]) -> Told {
     let r = float(case, 14);
     let at = place(case);
     let paint = brush(case);
     answer(fill::fill_rrect(canvas(case), px, at, r, paint), case)
 }
 
-fn rectangle(case: &[u8], px: &mut [u32]) -> u32 {
+fn rectangle(case: &[u8], px: &mut [u32]) -> Told {
     let at = place(case);
     let paint = brush(case);
     answer(fill::fill_rect(canvas(case), px, at, paint), case)
 }
 
-fn circle(case: &[u8], px: &mut [u32]) -> u32 {
+fn circle(case: &[u8], px: &mut [u32]) -> Told {
     let r = float(case, 14);
     let c = point(from(case, 17));
     let paint = brush(case);
@@ -110,13 +120,13 @@ fn circle(case: &[u8], px: &mut [u32]) -> u32 {
     )
 }
 
-fn polyline(case: &[u8], px: &mut [u32], pts: &[f32]) -> u32 {
+fn polyline(case: &[u8], px: &mut [u32], pts: &[f32]) -> Told {
     let width = float(case, 15);
     let ink = ink(case);
     answer(line::polyline(canvas(case), px, pts, width, ink), case)
 }
 
-fn polygon(case: &[u8], px: &mut [u32], pts: &[f32], scratch: &mut [f32]) -> u32 {
+fn polygon(case: &[u8], px: &mut [u32], pts: &[f32], scratch: &mut [f32]) -> Told {
     let paint = brush(case);
     answer(poly::fill_poly(canvas(case), px, pts, paint, scratch), case)
 }
@@ -134,7 +144,7 @@ fn points(words: &[u8]) -> [f32; 130]
     out
 }
 
-fn joined(case: &[u8], px: &mut [u32], scratch: &mut [f32]) -> u32 {
+fn joined(case: &[u8], px: &mut [u32], scratch: &mut [f32]) -> Told {
     let n = least(word(case, 16) as usize, 130);
     let space = points(from(case, 17));
     if word(case, 0) == 2 {
@@ -145,7 +155,7 @@ fn joined(case: &[u8], px: &mut [u32], scratch: &mut [f32]) -> u32 {
 }
 
 // The shapes that go through no list of points.
-fn placed(case: &[u8], px: &mut [u32]) -> u32 {
+fn placed(case: &[u8], px: &mut [u32]) -> Told {
     match word(case, 0) {
         1 => lined(case, px),
         3 => outlined(case, px),
@@ -157,8 +167,8 @@ fn placed(case: &[u8], px: &mut [u32]) -> u32 {
     }
 }
 
-// Draws the shape of a case's words; its number, or 99 where the state is not left as it was.
-pub fn shape(case: &[u8], px: &mut [u32], scratch: &mut [f32]) -> u32 {
+// Draws the shape of a case's words.
+pub fn shape(case: &[u8], px: &mut [u32], scratch: &mut [f32]) -> Told {
     let f = word(case, 0);
     if (f == 2) | (f == 8) {
         joined(case, px, scratch)

@@ -78,6 +78,6 @@ pub fn blend(px: &mut [u32], r: u8, g: u8, b: u8, a: u8)
     let c = color::Color { r, g, b, a };
     let alpha = a as u32;
     for i in 0..px.len() {
-        px[i] = color::over(px[i], c, alpha);
+        px[i] = color::over(px[i], c, alpha).value;
     }
 }

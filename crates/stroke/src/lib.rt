@@ -10,7 +10,7 @@ use geom::Rect;
 use geom::floats_ok;
 use geom::nat_of;
 use gfx::Canvas;
-use gfx::Done;
+use gfx::Counted;
 use paints::Rounded;
 use paints::both_positive;
 use paints::centre;
@@ -25,8 +25,8 @@ ghost use Rattle.mathf.specs.Root.{sqrtOf};
 ghost use Rattle.geom.specs.Int.{up};
 ghost use Rattle.draw.specs.Draw.{drawn};
 ghost use Rattle.draw.specs.Held.{Holds};
-ghost use Rattle.draw.specs.Areas.{drawnIn, area, clipTo, RowFits, AreaFits};
-ghost use Rattle.gfx.specs.Calls.{Called, shapeNumber};
+ghost use Rattle.draw.specs.Areas.{RowFits, AreaFits, DrewRow, DrewIn};
+ghost use Rattle.gfx.specs.Calls.{ShapeCalled, shapeNumber};
 ghost use Rattle.paints.specs.Paints.{circleRect, roundedSd, centreOf};
 ghost use Rattle.stroke.specs.Stroke.{strokeOk, strokeReach, bandCover, fullRow, cornerRow, bandInk, outlineInk, strokeInk, ringOk};
 ghost use Rattle.stroke.specs.Rows.{LevelOf, BlankFrom, BlankUpto, widthOf, GapOf, RowGap, LevelIn, LevelPart, Ready, levelInk, columnCover, bandAt, eachInk};
@@ -260,17 +260,21 @@ fn side_span(
     x1: usize,
     o: Frame,
     l: Level,
-)
+) -> u32
     requires { ⌜ RowFits w y x0 x1 (length (now px)) ⌝ }
     requires { ⌜ LevelOf (o .s) (o .width) (centreOf y) l × ((l .qy ≤ᶠ f0) ≡ true) × Holds (columnCover (o .s) (o .width)) x0 x1 (now cols) ⌝ }
-    ensures { λ _. ⌜ now (px .exit) ≡ drawnIn w (area x0 y x1 (y + 1)) (bandInk (o .s) (o .width) (o .c)) (now (px .entry)) ⌝ }
+    ensures { λ n. ⌜ DrewRow w y x0 x1 (bandInk (o .s) (o .width) (o .c)) (now (px .entry)) n (now (px .exit)) ⌝ }
 {
     let row = y * w;
+    let mut n = 0;
     for x in x0..x1 {
         let cv = side_cover(o.s, l, x, cols[x]);
         let i = row + x;
-        px[i] = blend_c_wide(px[i], o.c, cv);
+        let q = blend_c_wide(px[i], o.c, cv);
+        px[i] = q.value;
+        n += q.altered as u32;
     }
+    n
 }
 
 // The coverages of n columns from x0 on of any other row.
@@ -294,41 +298,47 @@ fn each_span(
     x0: usize,
     x1: usize,
     c: Color,
-)
+) -> u32
     requires { ⌜ RowFits w y x0 x1 (length (now px)) ⌝ }
     requires { ⌜ x1 ≤ x0 + 128 ⌝ }
-    ensures { λ _. ⌜ now (px .exit) ≡ drawnIn w (area x0 y x1 (y + 1)) (eachInk c x0 (now (covers .entry))) (now (px .entry)) ⌝ }
+    ensures { λ n. ⌜ DrewRow w y x0 x1 (eachInk c x0 (now (covers .entry))) (now (px .entry)) n (now (px .exit)) ⌝ }
 {
     let row = y * w;
+    let mut n = 0;
     for x in x0..x1 {
         let i = row + x;
-        px[i] = blend_c_wide(px[i], c, covers[x - x0]);
+        let q = blend_c_wide(px[i], c, covers[x - x0]);
+        px[i] = q.value;
+        n += q.altered as u32;
     }
+    n
 }
 
 // At most 128 columns of such a row y, by distance: their coverages first, then all pixels.
-fn corner_part(px: &mut [u32], w: usize, y: usize, x0: usize, x1: usize, o: Frame, l: Level)
+fn corner_part(px: &mut [u32], w: usize, y: usize, x0: usize, x1: usize, o: Frame, l: Level) -> u32
     requires { ⌜ RowFits w y x0 x1 (length (now px)) ⌝ }
     requires { ⌜ LevelOf (o .s) (o .width) (centreOf y) l ⌝ }
     requires { ⌜ x1 ≤ x0 + 128 ⌝ }
-    ensures { λ _. ⌜ now (px .exit) ≡ drawnIn w (area x0 y x1 (y + 1)) (bandInk (o .s) (o .width) (o .c)) (now (px .entry)) ⌝ }
+    ensures { λ n. ⌜ DrewRow w y x0 x1 (bandInk (o .s) (o .width) (o .c)) (now (px .entry)) n (now (px .exit)) ⌝ }
 {
     let covers = covers(o.s, o.width, l, x0, x1 - x0);
-    each_span(px, &covers, w, y, x0, x1, o.c);
+    each_span(px, &covers, w, y, x0, x1, o.c)
 }
 
 // A part of such a row y.
-fn corner_span(px: &mut [u32], w: usize, y: usize, x0: usize, x1: usize, o: Frame, l: Level)
+fn corner_span(px: &mut [u32], w: usize, y: usize, x0: usize, x1: usize, o: Frame, l: Level) -> u32
     requires { ⌜ RowFits w y x0 x1 (length (now px)) ⌝ }
     requires { ⌜ LevelOf (o .s) (o .width) (centreOf y) l ⌝ }
-    ensures { λ _. ⌜ now (px .exit) ≡ drawnIn w (area x0 y x1 (y + 1)) (bandInk (o .s) (o .width) (o .c)) (now (px .entry)) ⌝ }
+    ensures { λ n. ⌜ DrewRow w y x0 x1 (bandInk (o .s) (o .width) (o .c)) (now (px .entry)) n (now (px .exit)) ⌝ }
 {
     let mut x = x0;
+    let mut n = 0;
     while x < x1 {
         let next = between(x + 128, x, x1);
-        corner_part(px, w, y, x, next, o, l);
+        n += corner_part(px, w, y, x, next, o, l);
         x = next;
     }
+    n
 }
 
 // A part of row y: what its columns share comes with it.
@@ -341,44 +351,49 @@ fn band_span(
     x1: usize,
     o: Frame,
     l: Level,
-)
+) -> u32
     requires { ⌜ RowFits w y x0 x1 (length (now px)) ⌝ }
     requires { ⌜ LevelOf (o .s) (o .width) (centreOf y) l × Holds (columnCover (o .s) (o .width)) x0 x1 (now cols) ⌝ }
-    ensures { λ _. ⌜ now (px .exit) ≡ drawnIn w (area x0 y x1 (y + 1)) (bandInk (o .s) (o .width) (o .c)) (now (px .entry)) ⌝ }
+    ensures { λ n. ⌜ DrewRow w y x0 x1 (bandInk (o .s) (o .width) (o .c)) (now (px .entry)) n (now (px .exit)) ⌝ }
 {
     if l.qy <= 0.0 {
-        side_span(px, cols, w, y, x0, x1, o, l);
+        side_span(px, cols, w, y, x0, x1, o, l)
     } else {
-        corner_span(px, w, y, x0, x1, o, l);
+        corner_span(px, w, y, x0, x1, o, l)
     }
 }
 
 // A part of row y at one coverage.
-fn level_span(px: &mut [u32], w: usize, y: usize, x0: usize, x1: usize, c: Color, cv: u32)
+fn level_span(px: &mut [u32], w: usize, y: usize, x0: usize, x1: usize, c: Color, cv: u32) -> u32
     requires { ⌜ RowFits w y x0 x1 (length (now px)) ⌝ }
-    ensures { λ _. ⌜ now (px .exit) ≡ drawnIn w (area x0 y x1 (y + 1)) (levelInk c cv) (now (px .entry)) ⌝ }
+    ensures { λ n. ⌜ DrewRow w y x0 x1 (levelInk c cv) (now (px .entry)) n (now (px .exit)) ⌝ }
 {
     let row = y * w;
+    let mut n = 0;
     for x in x0..x1 {
         let i = row + x;
-        px[i] = blend_c(px[i], c, cv);
+        let q = blend_c(px[i], c, cv);
+        px[i] = q.value;
+        n += q.altered as u32;
     }
+    n
 }
 
 // Row y where it is full: beside no corner it has one coverage.
-fn full_span(px: &mut [u32], w: usize, y: usize, x0: usize, x1: usize, o: Frame, l: Level)
+fn full_span(px: &mut [u32], w: usize, y: usize, x0: usize, x1: usize, o: Frame, l: Level) -> u32
     requires { ⌜ RowFits w y x0 x1 (length (now px)) ⌝ }
     requires { ⌜ LevelOf (o .s) (o .width) (centreOf y) l × LevelPart (o .s) x0 x1 (o .level) ⌝ }
-    ensures { λ _. ⌜ now (px .exit) ≡ drawnIn w (area x0 y x1 (y + 1)) (bandInk (o .s) (o .width) (o .c)) (now (px .entry)) ⌝ }
+    ensures { λ n. ⌜ DrewRow w y x0 x1 (bandInk (o .s) (o .width) (o .c)) (now (px .entry)) n (now (px .exit)) ⌝ }
 {
     if l.qy >= 0.0 {
         let a = o.level.from;
         let b = o.level.upto;
-        corner_span(px, w, y, x0, a, o, l);
-        level_span(px, w, y, a, b, o.c, l.level);
-        corner_span(px, w, y, b, x1, o, l);
+        let left = corner_span(px, w, y, x0, a, o, l);
+        let middle = level_span(px, w, y, a, b, o.c, l.level);
+        let right = corner_span(px, w, y, b, x1, o, l);
+        left + middle + right
     } else {
-        corner_span(px, w, y, x0, x1, o, l);
+        corner_span(px, w, y, x0, x1, o, l)
     }
 }
 
@@ -393,16 +408,17 @@ fn side_spans(
     o: Frame,
     l: Level,
     g: Columns,
-)
+) -> u32
     requires { ⌜ RowFits w y x0 x1 (length (now px)) ⌝ }
     requires { ⌜ LevelOf (o .s) (o .width) (centreOf y) l × RowGap (o .s) (o .width) (centreOf y) g × (fullRow (o .s) (o .width +ᶠ f1) (centreOf y) ≡ false) ⌝ }
     requires { ⌜ Holds (columnCover (o .s) (o .width)) x0 x1 (now cols) ⌝ }
-    ensures { λ _. ⌜ now (px .exit) ≡ drawnIn w (area x0 y x1 (y + 1)) (outlineInk (o .s) (o .width) (o .c)) (now (px .entry)) ⌝ }
+    ensures { λ n. ⌜ DrewRow w y x0 x1 (outlineInk (o .s) (o .width) (o .c)) (now (px .entry)) n (now (px .exit)) ⌝ }
 {
     let a = between(g.from, x0, x1);
     let b = between(g.upto, a, x1);
-    band_span(px, cols, w, y, x0, a, o, l);
-    band_span(px, cols, w, y, b, x1, o, l);
+    let left = band_span(px, cols, w, y, x0, a, o, l);
+    let right = band_span(px, cols, w, y, b, x1, o, l);
+    left + right
 }
 
 // The gap of a row.
@@ -426,39 +442,41 @@ fn outline_row(
     x0: usize,
     x1: usize,
     o: Frame,
-)
+) -> u32
     requires { ⌜ RowFits w y x0 x1 (length (now px)) ⌝ }
     requires { ⌜ Ready o × LevelPart (o .s) x0 x1 (o .level) × Holds (columnCover (o .s) (o .width)) x0 x1 (now cols) ⌝ }
-    ensures { λ _. ⌜ now (px .exit) ≡ drawnIn w (area x0 y x1 (y + 1)) (outlineInk (o .s) (o .width) (o .c)) (now (px .entry)) ⌝ }
+    ensures { λ n. ⌜ DrewRow w y x0 x1 (outlineInk (o .s) (o .width) (o .c)) (now (px .entry)) n (now (px .exit)) ⌝ }
 {
     let yc = centre(y as u16);
     let l = level_of(o, yc);
     if full_row(o.s, o.width + 1.0, yc) {
-        full_span(px, w, y, x0, x1, o, l);
+        full_span(px, w, y, x0, x1, o, l)
     } else {
-        side_spans(px, cols, w, y, x0, x1, o, l, row_gap(o, yc));
+        side_spans(px, cols, w, y, x0, x1, o, l, row_gap(o, yc))
     }
 }
 
 // The rows of an area.
-fn outline_box(px: &mut [u32], cols: &[u32; 2048], w: usize, b: Area, o: Frame)
+fn outline_box(px: &mut [u32], cols: &[u32; 2048], w: usize, b: Area, o: Frame) -> u32
     requires { ⌜ AreaFits w b (length (now px)) ⌝ }
     requires { ⌜ Ready o × LevelPart (o .s) (b .x0) (b .x1) (o .level) × Holds (columnCover (o .s) (o .width)) (b .x0) (b .x1) (now cols) ⌝ }
-    ensures { λ _. ⌜ now (px .exit) ≡ drawnIn w b (outlineInk (o .s) (o .width) (o .c)) (now (px .entry)) ⌝ }
+    ensures { λ n. ⌜ DrewIn w b (outlineInk (o .s) (o .width) (o .c)) (now (px .entry)) n (now (px .exit)) ⌝ }
 {
     let x0 = b.x0;
     let x1 = b.x1;
     let y0 = b.y0;
     let y1 = b.y1;
+    let mut n = 0;
     for y in y0..y1 {
-        outline_row(px, cols, w, y, x0, x1, o);
+        n += outline_row(px, cols, w, y, x0, x1, o);
     }
+    n
 }
 
 // An area of the outline of a rectangle: what its rows share is worked out first.
-fn outline_all(px: &mut [u32], w: usize, b: Area, s: Rounded, width: f32, c: Color)
+fn outline_all(px: &mut [u32], w: usize, b: Area, s: Rounded, width: f32, c: Color) -> u32
     requires { ⌜ AreaFits w b (length (now px)) ⌝ }
-    ensures { λ _. ⌜ now (px .exit) ≡ drawnIn w b (outlineInk s width c) (now (px .entry)) ⌝ }
+    ensures { λ n. ⌜ DrewIn w b (outlineInk s width c) (now (px .entry)) n (now (px .exit)) ⌝ }
 {
     let bent = gap(s, width, true);
     let straight = gap(s, width, false);
@@ -474,17 +492,18 @@ fn outline_all(px: &mut [u32], w: usize, b: Area, s: Rounded, width: f32, c: Col
         near: blank_upto(s.r, width),
     };
     let cols = column_covers(s, width, b.x0, b.x1);
-    outline_box(px, &cols, w, b, o);
+    outline_box(px, &cols, w, b, o)
 }
 
 // The same, where the area has rows.
-fn outline_area(px: &mut [u32], w: usize, b: Area, s: Rounded, width: f32, c: Color)
+fn outline_area(px: &mut [u32], w: usize, b: Area, s: Rounded, width: f32, c: Color) -> u32
     requires { ⌜ AreaFits w b (length (now px)) ⌝ }
-    ensures { λ _. ⌜ now (px .exit) ≡ drawnIn w b (outlineInk s width c) (now (px .entry)) ⌝ }
+    ensures { λ n. ⌜ DrewIn w b (outlineInk s width c) (now (px .entry)) n (now (px .exit)) ⌝ }
 {
     if b.y0 < b.y1 {
-        outline_all(px, w, b, s, width, c);
+        return outline_all(px, w, b, s, width, c);
     }
+    0
 }
 
 // The outline of a rectangle whose floats were tested by the caller.
@@ -496,18 +515,26 @@ fn outline(
     r: f32,
     width: f32,
     c: Color,
-) -> Done
-    ensures { λ d. ⌜ Called (shapeNumber canvas (length (now (px .entry))) ok) canvas canvas (now (px .entry)) (drawn (up (canvas .w)) (canvas .clip) (strokeReach rect c) (strokeInk rect r width c) (now (px .entry))) d (now (px .exit)) ⌝ }
+) -> Counted
+    ensures { λ d. ⌜ ShapeCalled (shapeNumber canvas (length (now (px .entry))) ok) canvas (now (px .entry)) (drawn (up (canvas .w)) (canvas .clip) (strokeReach rect c) (strokeInk rect r width c) (now (px .entry))) d (now (px .exit)) ⌝ }
 {
     let number = canvas.shape_number(px.len(), ok);
     if number != 0 {
-        return Done { number, canvas };
+        return Counted {
+            number,
+            canvas,
+            steps: 0,
+        };
     }
     let w = nat_of(canvas.w);
     let clip = canvas.clip;
     let b = clipped(stroke_reach(rect, c), clip);
-    outline_area(px, w, b, Rounded::of(rect, r), width, c);
-    Done { number, canvas }
+    let steps = outline_area(px, w, b, Rounded::of(rect, r), width, c) as u64;
+    Counted {
+        number,
+        canvas,
+        steps,
+    }
 }
 
 // The outline of a rounded rectangle.
@@ -518,8 +545,8 @@ pub fn stroke_rrect(
     r: f32,
     width: f32,
     color: Color,
-) -> Done
-    ensures { λ d. ⌜ Called (shapeNumber canvas (length (now (px .entry))) (strokeOk rect r width)) canvas canvas (now (px .entry)) (drawn (up (canvas .w)) (canvas .clip) (strokeReach rect color) (strokeInk rect r width color) (now (px .entry))) d (now (px .exit)) ⌝ }
+) -> Counted
+    ensures { λ d. ⌜ ShapeCalled (shapeNumber canvas (length (now (px .entry))) (strokeOk rect r width)) canvas (now (px .entry)) (drawn (up (canvas .w)) (canvas .clip) (strokeReach rect color) (strokeInk rect r width color) (now (px .entry))) d (now (px .exit)) ⌝ }
 {
     let ok = rect.in_range() & floats_ok(r, width);
     outline(canvas, px, ok, rect, r, width, color)
@@ -534,8 +561,8 @@ pub fn ring(
     r: f32,
     width: f32,
     color: Color,
-) -> Done
-    ensures { λ d. ⌜ Called (shapeNumber canvas (length (now (px .entry))) (ringOk cx cy r width)) canvas canvas (now (px .entry)) (drawn (up (canvas .w)) (canvas .clip) (strokeReach (circleRect cx cy r) color) (strokeInk (circleRect cx cy r) r width color) (now (px .entry))) d (now (px .exit)) ⌝ }
+) -> Counted
+    ensures { λ d. ⌜ ShapeCalled (shapeNumber canvas (length (now (px .entry))) (ringOk cx cy r width)) canvas (now (px .entry)) (drawn (up (canvas .w)) (canvas .clip) (strokeReach (circleRect cx cy r) color) (strokeInk (circleRect cx cy r) r width color) (now (px .entry))) d (now (px .exit)) ⌝ }
 {
     let ok = floats_ok(cx, cy) & floats_ok(r, width);
     let rect = Rect::new(cx - r, cy - r, r * 2.0, r * 2.0);

@@ -11,6 +11,7 @@ use Rattle.geom.proofs.Bools.{and-left, split}
 use Rattle.sheet.specs.Check.{widthOf, sheetCheck, verdict}
 use Rattle.sheet.proofs.Accepted as sheets
 use Rattle.redraw.specs.declared.Answer.{Answer}
+use Rattle.redraw.specs.declared.Reply.{Reply}
 use Rattle.redraw.specs.Sheet.{Sheet, Reading, read, refused, Outcome, refuses, draws, painting, answer, refusal, accepted, fresh}
 use Rattle.redraw.specs.Calls.{Painted}
 use Rattle.redraw.proofs.Lists.{Paints, paint-accepted, paint-numbered, zero-accepted, shown-first}
@@ -47,15 +48,15 @@ drawn-text : (o : Outcome (List ℕ)) (s : Sheet (List ℕ)) {box : _} → o ≡
 unfolding outcomeText
 drawn-text o s e = rw e
 
-module _ (s px : List ℕ) (scratch : List Float) (a : Answer) (px′ : List ℕ) (scratch′ : List Float)
+module _ (s px : List ℕ) (scratch : List Float) (a : Reply) (px′ : List ℕ) (scratch′ : List Float)
     (did : Painted zeroWord format s px scratch a px′ scratch′) where
   abbrev outcome : Outcome (List ℕ)
   outcome = painting format s (length px) (length scratch)
 
-  pub refusal-shown : (a .number ≡ 0 → ⊥) → outcomeText outcome ≡ refusalText (a .number) (a .item)
-  refusal-shown h = refused-text outcome a (did .answers) h
+  pub refusal-shown : (a .answer .number ≡ 0 → ⊥) → outcomeText outcome ≡ refusalText (a .answer .number) (a .answer .item)
+  refusal-shown h = refused-text outcome (a .answer) (did .answers) h
 
-  module _ (zero : a .number ≡ 0) where
+  module _ (zero : a .answer .number ≡ 0) where
     yes : accepted outcome ≡ true
     yes = zero-accepted outcome (paint-numbered format lawful s (length px) (length scratch)) (sym (ap (λ (r : Answer). r .number) (did .answers)) ∙ zero)
 

@@ -63,7 +63,7 @@ fn shown(s: &[u8], px: &mut [u32], scratch: &mut [f32], out: &mut [u8]) -> usize
     requires { ⌜ (9 * length (now px) ≤ length (now out)) × (33 ≤ length (now out)) ⌝ }
     ensures { λ r. ⌜ Put (outcomeText (painting format (now (s .entry)) (length (now (px .entry))) (length (now (scratch .entry))))) (now (out .entry)) r (now (out .exit)) ⌝ }
 {
-    let a = paint(s, px, scratch);
+    let a = paint(s, px, scratch).answer;
     if a.number == 0 {
         put_picture(out, px, u16_at(s, 0))
     } else {

@@ -24,7 +24,7 @@ same-length c = search needs
 returns : tie.Need-returns
 returns c =
     let s = c .before .before .before .before in
-    c .before .before .fill-box .ensures ∙ rw (s .round-of .ensures .1, cut s)
+    rw (s .round-of .ensures .1, cut s) at (c .before .before .fill-box .ensures)
 
 pub fill-all-spec : {M : Type 1} → statement M
 fill-all-spec = tie.close (tie.spec radius-requires round-of-requires fill-box-requires same-length returns)

@@ -1,5 +1,6 @@
 -- `fill::fill_area` meets its contract. Assumes nothing.
 use borrow.Author.Needs.{needs}
+use Rattle.draw.proofs.Loops.{drew-none}
 use Rattle.draw.proofs.Rows.{none-down}
 use Rattle.fill.specs.Fill.{fillInk}
 use Rattle.fill.proofs.fill_area.Statement.{statement}
@@ -17,7 +18,7 @@ returns c = search needs
 returns-2 : tie.Need-returns-2
 returns-2 c =
     let a = c .before .before .before .args in
-    none-down (a .w) (fillInk (a .rect) (a .r) (a .paint)) _ (a .bb) (c .if1 .left)
+    drew-none (none-down (a .w) (fillInk (a .rect) (a .r) (a .paint)) _ (a .bb) (c .if1 .left))
 
 pub fill-area-spec : {M : Type 1} → statement M
 fill-area-spec = tie.close (tie.spec fill-all-requires same-length returns returns-2)

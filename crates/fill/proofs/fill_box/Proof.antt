@@ -7,10 +7,10 @@ use Rattle.fill.proofs.fill_box.Statement.{statement}
 use Rattle.fill.proofs.fill_box.Tie as tie
 
 abbrev Inv-loop : tie.InvT-loop
-Inv-loop px₀ w s paint x0 x1 y₀ y-end px y = InRows w (roundInk (s .rect) (s .edge .r) paint) x0 x1 y₀ y-end px₀ px y
+Inv-loop px₀ w s paint x0 x1 n₀ y₀ y-end px n y = InRows w (roundInk (s .rect) (s .edge .r) paint) x0 x1 y₀ y-end px₀ px n y
 
 abbrev μ-loop : tie.MeasureT-loop
-μ-loop px₀ w s paint x0 x1 y₀ y-end px y = y-end - y
+μ-loop px₀ w s paint x0 x1 n₀ y₀ y-end px n y = y-end - y
 
 loop-holds : tie.Need-loop-holds Inv-loop μ-loop
 loop-holds c =
@@ -23,6 +23,9 @@ fill-row-requires c κs =
     let pre = l .before .before .pre in
     (row-fits (pre .0) (l .loop .inv) (c .before .loop-test .taken), pre .1)
 
+add-n : tie.Need-add-n Inv-loop μ-loop
+add-n c = omega arith
+
 add-y : tie.Need-add-y Inv-loop μ-loop
 add-y c = omega arith
 
@@ -33,13 +36,13 @@ loop-again : tie.Need-loop-again Inv-loop μ-loop
 loop-again c =
     let row = c .before .before in
     let turn = row .before .before in
-    rows-next (turn .before .loop .inv) (turn .loop-test .taken) (row .fill-row .ensures)
+    rows-next (turn .before .before .before .pre .0 .wide) (turn .before .loop .inv) (turn .loop-test .taken) (row .fill-row .ensures)
 
 same-length : tie.Need-same-length Inv-loop μ-loop
 same-length c = omega arith
 
 returns : tie.Need-returns Inv-loop μ-loop
-returns c = rows-end (c .before .loop .inv) (c .loop-test .left)
+returns c = rows-end (c .before .before .before .pre .0 .high) (c .before .loop .inv) (c .loop-test .left)
 
 pub fill-box-spec : {M : Type 1} → statement M
 fill-box-spec =
@@ -49,6 +52,7 @@ fill-box-spec =
     μ-loop
     loop-holds
     fill-row-requires
+    add-n
     add-y
     loop-less
     loop-again

@@ -1,5 +1,5 @@
 -- `fill::fill_row` meets its contract. Assumes nothing.
-use mathlib.Core.Path.{_∙_}
+use Rattle.draw.proofs.Loops.{drew-as}
 use Rattle.draw.proofs.Rows.{row-same}
 use Rattle.fill.proofs.Parts.{same-paint}
 use borrow.Author.Needs.{needs}
@@ -26,8 +26,8 @@ returns c =
     let d = c .before .before in
     let h = d .before .before in
     let y = h .before in
-    d .row-parts .ensures
-    ∙ row-same _ _ _ _ _ _ _ (λ x p _ _. same-paint _ _ _ _ _ (rw (y .centre .ensures) at (h .in-row .ensures)) x p)
+    drew-as (d .row-parts .ensures)
+    (row-same _ _ _ _ _ _ _ (λ x p _ _. same-paint _ _ _ _ _ (rw (y .centre .ensures) at (h .in-row .ensures)) x p))
 
 pub fill-row-spec : {M : Type 1} → statement M
 fill-row-spec =

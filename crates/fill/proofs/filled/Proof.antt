@@ -1,10 +1,12 @@
 -- `fill::filled` meets its contract. Assumes nothing.
 use mathlib.Core.Path.{_≡_, sym, _∙_}
+use native.Mathlib.Omega.{arith}
 use Rattle.geom.specs.Int.{up}
 use Rattle.geom.proofs.Signed.{kept}
 use Rattle.draw.specs.Areas.{clipTo}
 use Rattle.draw.proofs.Clips.{drawn-clip}
-use Rattle.gfx.proofs.Answers.{refused-call, accepted-call}
+use Rattle.draw.proofs.Loops.{drew-as}
+use Rattle.gfx.proofs.Answers.{refused-shape, accepted-shape}
 use Rattle.gfx.proofs.Sizes.{shape-open}
 use Rattle.gfx.proofs.Fits.{canvas-fits}
 use Rattle.fill.specs.Fill.{fillReach}
@@ -23,7 +25,7 @@ shape-number-requires : tie.Need-shape-number-requires
 shape-number-requires c κs = search needs
 
 returns : tie.Need-returns
-returns c = refused-call (c .before .shape-number .ensures) (c .if1 .taken)
+returns c = refused-shape (c .before .shape-number .ensures) (c .if1 .taken)
 
 nat-of-requires : tie.Need-nat-of-requires
 nat-of-requires c κs = search needs
@@ -42,6 +44,9 @@ fill-area-requires c κs =
     let args = test .before .before .before .args in
     rw (pitch n, clip k) (canvas-fits (args .canvas) _ (fillReach (args .rect)) (shape-open _ _ (args .ok) (sym (test .before .shape-number .ensures) ∙ test .if1 .left)))
 
+cast-steps : tie.Need-cast-steps
+cast-steps c = omega (arith, c .before .before .fill-area .ensures .few)
+
 same-length : tie.Need-same-length
 same-length c = search needs
 
@@ -52,8 +57,8 @@ returns-2 c =
     let n = k .before .before .before in
     let test = n .before .before in
     let args = test .before .before .before .args in
-    rw (f .fill-area .ensures, pitch n, clip k, ← (drawn-clip (up (args .canvas .w)) (args .canvas .clip) (fillReach (args .rect))))
-    (accepted-call (test .before .shape-number .ensures) (test .if1 .left))
+    accepted-shape (test .before .shape-number .ensures) (test .if1 .left)
+    (drew-as (rw (pitch n, clip k) at (f .fill-area .ensures)) (sym (drawn-clip (up (args .canvas .w)) (args .canvas .clip) (fillReach (args .rect)) _ _)))
 
 pub filled-spec : {M : Type 1} → statement M
 filled-spec =
@@ -65,5 +70,6 @@ filled-spec =
     fill-reach-requires
     clipped-requires
     fill-area-requires
+    cast-steps
     same-length
     returns-2)

@@ -2,16 +2,16 @@
 use mathlib.Core.Path.{_∙_}
 use Prim.Native.Nat.{_-_}
 use native.Mathlib.Omega.{arith}
-use Rattle.draw.proofs.Loops.{InRow, row-start, row-next, row-end}
+use Rattle.draw.proofs.Loops.{InRow, row-start, row-next, row-end, bit-most}
 use Rattle.fill.specs.Fill.{middleInk}
 use Rattle.fill.proofs.paint_span.Statement.{statement}
 use Rattle.fill.proofs.paint_span.Tie as tie
 
 abbrev Inv-loop : tie.InvT-loop
-Inv-loop px₀ w y x0 x1 paint row yc x₀ px x = InRow w (middleInk paint) y x0 x1 px₀ px x
+Inv-loop px₀ w y x0 x1 paint row yc n₀ x₀ px n x = InRow w (middleInk paint) y x0 x1 px₀ px n x
 
 abbrev μ-loop : tie.MeasureT-loop
-μ-loop px₀ w y x0 x1 paint row yc x₀ px x = x1 - x
+μ-loop px₀ w y x0 x1 paint row yc n₀ x₀ px n x = x1 - x
 
 mul-row : tie.Need-mul-row Inv-loop μ-loop
 mul-row c = omega arith
@@ -57,6 +57,12 @@ mul-px c = omega arith
 slice-write-px : tie.Need-slice-write-px Inv-loop μ-loop
 slice-write-px c = omega arith
 
+cast-n : tie.Need-cast-n Inv-loop μ-loop
+cast-n c = omega arith
+
+add-n : tie.Need-add-n Inv-loop μ-loop
+add-n c = omega (arith, bit-most (c .before .over .result .altered))
+
 add-x : tie.Need-add-x Inv-loop μ-loop
 add-x c = omega arith
 
@@ -66,11 +72,12 @@ loop-less c = omega arith
 loop-again : tie.Need-loop-again Inv-loop μ-loop
 unfolding middleInk
 loop-again c =
-    let at = c .before .before .before in
+    let q = c .before in
+    let at = q .before .before .before in
     let turn = at .before .before in
     let loop = turn .before in
     row-next (loop .before .before .before .pre) (loop .loop .inv) (turn .loop-test .taken)
-    (c .over .ensures ∙ rw (at .at .ensures, at .before .centre2 .ensures, loop .before .centre .ensures))
+    (q .over .ensures ∙ rw (at .at .ensures, at .before .centre2 .ensures, loop .before .centre .ensures))
 
 same-length : tie.Need-same-length Inv-loop μ-loop
 same-length c = omega arith
@@ -98,6 +105,8 @@ paint-span-spec =
     over-requires
     mul-px
     slice-write-px
+    cast-n
+    add-n
     add-x
     loop-less
     loop-again

@@ -3,17 +3,17 @@ use mathlib.Core.Path.{_≡_, sym, _∙_}
 use Prim.Native.Nat.{_-_}
 use native.Mathlib.Omega.{arith}
 use Rattle.color.proofs.Overs.{overC-none}
-use Rattle.draw.proofs.Loops.{InRow, row-start, row-next, row-pass, row-end}
+use Rattle.draw.proofs.Loops.{InRow, row-start, row-next, row-pass, row-end, bit-most}
 use Rattle.paints.specs.Paints.{centreOf}
 use Rattle.fill.specs.Fill.{coverOf, rimInk}
 use Rattle.fill.proofs.rim.Statement.{statement}
 use Rattle.fill.proofs.rim.Tie as tie
 
 abbrev Inv-loop : tie.InvT-loop
-Inv-loop px₀ w y x0 x1 rect e l paint row yc x₀ px x = InRow w (rimInk rect (e .r) paint) y x0 x1 px₀ px x
+Inv-loop px₀ w y x0 x1 rect e l paint row yc n₀ x₀ px n x = InRow w (rimInk rect (e .r) paint) y x0 x1 px₀ px n x
 
 abbrev μ-loop : tie.MeasureT-loop
-μ-loop px₀ w y x0 x1 rect e l paint row yc x₀ px x = x1 - x
+μ-loop px₀ w y x0 x1 rect e l paint row yc n₀ x₀ px n x = x1 - x
 
 -- the coverage at column x, by the centres of x and y
 at-centre : (c : tie.After-level-cover Inv-loop μ-loop) → let loop = c .before .before .before in let args = loop .before .before .before .args in
@@ -81,6 +81,12 @@ mul-px c = omega arith
 slice-write-px : tie.Need-slice-write-px Inv-loop μ-loop
 slice-write-px c = omega arith
 
+cast-n : tie.Need-cast-n Inv-loop μ-loop
+cast-n c = omega arith
+
+add-n : tie.Need-add-n Inv-loop μ-loop
+add-n c = omega (arith, bit-most (c .before .blend-c .result .altered))
+
 add-x-2 : tie.Need-add-x-2 Inv-loop μ-loop
 add-x-2 c = omega arith
 
@@ -90,12 +96,13 @@ loop-less-2 c = omega arith
 loop-again-2 : tie.Need-loop-again-2 Inv-loop μ-loop
 unfolding rimInk
 loop-again-2 c =
-    let at = c .before .before in
+    let q = c .before in
+    let at = q .before .before in
     let cv = at .before .before in
     let turn = cv .before .before in
     let loop = turn .before in
     row-next (loop .before .before .before .pre .0) (loop .loop .inv) (turn .loop-test .taken)
-    (c .blend-c .ensures ∙ rw (at .colour-at .ensures, at-centre cv, cv .before .centre2 .ensures, loop .before .centre .ensures))
+    (q .blend-c .ensures ∙ rw (at .colour-at .ensures, at-centre cv, cv .before .centre2 .ensures, loop .before .centre .ensures))
 
 same-length : tie.Need-same-length Inv-loop μ-loop
 same-length c = omega arith
@@ -126,6 +133,8 @@ rim-spec =
     blend-c-requires
     mul-px
     slice-write-px
+    cast-n
+    add-n
     add-x-2
     loop-less-2
     loop-again-2

@@ -1,4 +1,5 @@
 -- `fill::row_parts` meets its contract. Assumes nothing.
+use native.Mathlib.Omega.{arith}
 use Rattle.fill.proofs.Parts.{parts-drawn}
 use borrow.Author.Needs.{needs}
 use Rattle.fill.proofs.row_parts.Statement.{statement}
@@ -21,6 +22,22 @@ rim-requires-2 c κs =
     let l = c .before .before .before .before .before .before .before .before .before in
     (search needs, l .before .before .before .before .before .pre .1 .sure, l .level-of .ensures)
 
+-- the three counts fit beside each other
+add-result : tie.Need-add-result
+add-result c =
+    let mid = c .before .before .before .before .before .before in
+    let left = mid .before .before .before .before in
+    let k = left .before .before .before in
+    omega (arith, left .rim .ensures .few, mid .middle-span .ensures .few, k .cut-row .ensures .order, k .cut-row .ensures .right, k .before .before .before .before .pre .0 .wide)
+
+add-result-2 : tie.Need-add-result-2
+add-result-2 c =
+    let right = c .before .before in
+    let mid = right .before .before .before .before in
+    let left = mid .before .before .before .before in
+    let k = left .before .before .before in
+    omega (arith, left .rim .ensures .few, mid .middle-span .ensures .few, right .rim2 .ensures .few, k .cut-row .ensures .order, k .cut-row .ensures .right, k .before .before .before .before .pre .0 .wide)
+
 same-length : tie.Need-same-length
 same-length c = search needs
 
@@ -41,5 +58,7 @@ row-parts-spec =
     rim-requires
     middle-span-requires
     rim-requires-2
+    add-result
+    add-result-2
     same-length
     returns)

@@ -1,31 +1,45 @@
 -- `fill::store_span` meets its contract. The columns before x are drawn. Assumes nothing.
-use mathlib.Core.Path.{refl}
 use Prim.Native.Nat.{_-_}
 use native.Mathlib.Omega.{arith}
-use Rattle.draw.proofs.Loops.{InRow, row-start, row-next, row-end}
+use Rattle.draw.proofs.Loops.{InRow, row-start, row-next, row-end, bit-most}
 use Rattle.fill.proofs.store_span.Statement.{statement}
 use Rattle.fill.proofs.store_span.Tie as tie
 
 abbrev Inv-loop : tie.InvT-loop
-Inv-loop px₀ w y x0 x1 v row x₀ px x = InRow w (λ _ _ _. v) y x0 x1 px₀ px x
+Inv-loop px₀ w y x0 x1 v row n₀ x₀ px n x = InRow w (λ _ _ _. v) y x0 x1 px₀ px n x
 
 abbrev μ-loop : tie.MeasureT-loop
-μ-loop px₀ w y x0 x1 v row x₀ px x = x1 - x
+μ-loop px₀ w y x0 x1 v row n₀ x₀ px n x = x1 - x
 
 mul-row : tie.Need-mul-row Inv-loop μ-loop
 mul-row c = omega arith
 
 loop-holds : tie.Need-loop-holds Inv-loop μ-loop
-loop-holds c = row-start _ (λ _ _ _. c .args .v) _ _ _ _ (c .pre .order)
+loop-holds c = row-start _ (λ _ _ _. c .before .args .v) _ _ _ _ (c .before .pre .order)
 
-add-px : tie.Need-add-px Inv-loop μ-loop
-add-px c = omega arith
+add-i : tie.Need-add-i Inv-loop μ-loop
+add-i c = omega arith
+
+mul-put : tie.Need-mul-put Inv-loop μ-loop
+mul-put c = omega arith
+
+slice-read-put : tie.Need-slice-read-put Inv-loop μ-loop
+slice-read-put c = omega arith
+
+put-requires : tie.Need-put-requires Inv-loop μ-loop
+put-requires c κs = omega arith
 
 mul-px : tie.Need-mul-px Inv-loop μ-loop
 mul-px c = omega arith
 
 slice-write-px : tie.Need-slice-write-px Inv-loop μ-loop
 slice-write-px c = omega arith
+
+cast-n : tie.Need-cast-n Inv-loop μ-loop
+cast-n c = omega arith
+
+add-n : tie.Need-add-n Inv-loop μ-loop
+add-n c = omega (arith, bit-most (c .before .put .result .altered))
 
 add-x : tie.Need-add-x Inv-loop μ-loop
 add-x c = omega arith
@@ -35,8 +49,10 @@ loop-less c = omega arith
 
 loop-again : tie.Need-loop-again Inv-loop μ-loop
 loop-again c =
-    let loop = c .before in
-    row-next (loop .before .pre) (loop .loop .inv) (c .loop-test .taken) refl
+    let q = c .before in
+    let turn = q .before .before in
+    let loop = turn .before in
+    row-next (loop .before .before .pre) (loop .loop .inv) (turn .loop-test .taken) (q .put .ensures)
 
 same-length : tie.Need-same-length Inv-loop μ-loop
 same-length c = omega arith
@@ -52,9 +68,14 @@ store-span-spec =
     μ-loop
     mul-row
     loop-holds
-    add-px
+    add-i
+    mul-put
+    slice-read-put
+    put-requires
     mul-px
     slice-write-px
+    cast-n
+    add-n
     add-x
     loop-less
     loop-again

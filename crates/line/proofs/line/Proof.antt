@@ -1,11 +1,12 @@
 -- `line::line` meets its contract. Assumes nothing.
 use mathlib.Core.Path.{_≡_, _∙_, sym}
+use native.Mathlib.Omega.{arith}
 use borrow.Author.Needs.{needs}
 use lib.ListN.{length}
 use Rattle.geom.specs.Int.{up}
 use Rattle.geom.proofs.Signed.{kept}
 use Rattle.gfx.specs.Calls.{shapeNumber}
-use Rattle.gfx.proofs.Answers.{refused-call, accepted-call}
+use Rattle.gfx.proofs.Answers.{refused-shape, accepted-shape}
 use Rattle.gfx.proofs.Fits.{canvas-fits}
 use Rattle.gfx.proofs.Sizes.{shape-open}
 use Rattle.line.specs.Lines.{lineOk}
@@ -28,7 +29,7 @@ shape-number-requires : tie.Need-shape-number-requires
 shape-number-requires c κs = search needs
 
 returns : tie.Need-returns
-returns c = refused-call (number (c .before)) (c .if1 .taken)
+returns c = refused-shape (number (c .before)) (c .if1 .taken)
 
 nat-of-requires : tie.Need-nat-of-requires
 nat-of-requires c κs = search needs
@@ -38,6 +39,9 @@ draw-line-requires c κs =
     let d = c .before .before .before .before in
     rw (wide c) (canvas-fits _ _ _ (shape-open _ _ _ (sym (number (d .before)) ∙ d .if1 .left)))
 
+cast-steps : tie.Need-cast-steps
+cast-steps c = omega (arith, c .before .before .draw-line .ensures .few)
+
 same-length : tie.Need-same-length
 same-length c = search needs
 
@@ -45,7 +49,7 @@ returns-2 : tie.Need-returns-2
 returns-2 c =
     let s = c .before .before in
     let d = s .before .before .before .before .before in
-    rw (s .draw-line .ensures, wide (s .before)) (accepted-call (number (d .before)) (d .if1 .left))
+    accepted-shape (number (d .before)) (d .if1 .left) (rw (wide (s .before)) at (s .draw-line .ensures))
 
 pub line-spec : {M : Type 1} → statement M
 line-spec =
@@ -56,5 +60,6 @@ line-spec =
     returns
     nat-of-requires
     draw-line-requires
+    cast-steps
     same-length
     returns-2)

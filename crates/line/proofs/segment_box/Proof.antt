@@ -7,10 +7,10 @@ use Rattle.line.proofs.segment_box.Statement.{statement}
 use Rattle.line.proofs.segment_box.Tie as tie
 
 abbrev Inv-loop : tie.InvT-loop
-Inv-loop px₀ w s e color x0 x1 y0 y1 y₀ px y = InRows w (segmentInk s color) x0 x1 y0 y1 px₀ px y
+Inv-loop px₀ w s e color x0 x1 y0 y1 n₀ y₀ px n y = InRows w (segmentInk s color) x0 x1 y0 y1 px₀ px n y
 
 abbrev μ-loop : tie.MeasureT-loop
-μ-loop px₀ w s e color x0 x1 y0 y1 y₀ px y = y1 - y
+μ-loop px₀ w s e color x0 x1 y0 y1 n₀ y₀ px n y = y1 - y
 
 loop-holds : tie.Need-loop-holds Inv-loop μ-loop
 loop-holds c =
@@ -22,6 +22,9 @@ segment-row-requires c κs =
     let l = c .before .before in
     (row-fits (l .before .before .pre .0) (l .loop .inv) (c .before .loop-test .taken), l .before .before .pre .1)
 
+add-n : tie.Need-add-n Inv-loop μ-loop
+add-n c = omega arith
+
 add-y : tie.Need-add-y Inv-loop μ-loop
 add-y c = omega arith
 
@@ -31,14 +34,14 @@ loop-less c = omega arith
 loop-again : tie.Need-loop-again Inv-loop μ-loop
 loop-again c =
     let l = c .before .before .before .before .before in
-    rows-next (l .loop .inv) (c .before .before .before .before .loop-test .taken) (c .before .before .segment-row .ensures)
+    rows-next (l .before .before .pre .0 .wide) (l .loop .inv) (c .before .before .before .before .loop-test .taken) (c .before .before .segment-row .ensures)
 
 same-length : tie.Need-same-length Inv-loop μ-loop
 same-length c = omega arith
 
 returns : tie.Need-returns Inv-loop μ-loop
-returns c = rows-end (c .before .loop .inv) (c .loop-test .left)
+returns c = rows-end (c .before .before .before .pre .0 .high) (c .before .loop .inv) (c .loop-test .left)
 
 pub segment-box-spec : {M : Type 1} → statement M
 segment-box-spec =
-    tie.close (tie.spec Inv-loop μ-loop loop-holds segment-row-requires add-y loop-less loop-again same-length returns)
+    tie.close (tie.spec Inv-loop μ-loop loop-holds segment-row-requires add-n add-y loop-less loop-again same-length returns)

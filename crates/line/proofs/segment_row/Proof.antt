@@ -3,17 +3,17 @@ use mathlib.Core.Path.{_≡_, sym, _∙_}
 use Prim.Native.Nat.{_-_}
 use native.Mathlib.Omega.{arith}
 use Rattle.color.proofs.Overs.{overC-none}
-use Rattle.draw.proofs.Loops.{InRow, row-start, row-next, row-pass, row-end}
+use Rattle.draw.proofs.Loops.{InRow, row-start, row-next, row-pass, row-end, bit-most}
 use Rattle.paints.specs.Paints.{centreOf}
 use Rattle.line.specs.Lines.{coverOf, segmentInk}
 use Rattle.line.proofs.segment_row.Statement.{statement}
 use Rattle.line.proofs.segment_row.Tie as tie
 
 abbrev Inv-loop : tie.InvT-loop
-Inv-loop px₀ w y x0 x1 s e color row yc x₀ px x = InRow w (segmentInk s color) y x0 x1 px₀ px x
+Inv-loop px₀ w y x0 x1 s e color row yc n₀ x₀ px n x = InRow w (segmentInk s color) y x0 x1 px₀ px n x
 
 abbrev μ-loop : tie.MeasureT-loop
-μ-loop px₀ w y x0 x1 s e color row yc x₀ px x = x1 - x
+μ-loop px₀ w y x0 x1 s e color row yc n₀ x₀ px n x = x1 - x
 
 -- the coverage at column x, by the centres of x and y
 at-centre : (c : tie.After-cover Inv-loop μ-loop) → c .cover .result ≡ coverOf (c .before .before .before .before .before .before .args .s) (centreOf (c .before .before .before .loop .x)) (centreOf (c .before .before .before .before .before .before .args .y))
@@ -74,6 +74,12 @@ mul-px c = omega arith
 slice-write-px : tie.Need-slice-write-px Inv-loop μ-loop
 slice-write-px c = omega arith
 
+cast-n : tie.Need-cast-n Inv-loop μ-loop
+cast-n c = omega arith
+
+add-n : tie.Need-add-n Inv-loop μ-loop
+add-n c = omega (arith, bit-most (c .before .blend-c .result .altered))
+
 add-x-2 : tie.Need-add-x-2 Inv-loop μ-loop
 add-x-2 c = omega arith
 
@@ -83,11 +89,12 @@ loop-less-2 c = omega arith
 loop-again-2 : tie.Need-loop-again-2 Inv-loop μ-loop
 unfolding segmentInk
 loop-again-2 c =
-    let test = c .before .before .before in
+    let q = c .before in
+    let test = q .before .before .before in
     let turn = test .before .before in
     let loop = turn .before in
     row-next (loop .before .before .before .pre .0) (loop .loop .inv) (turn .loop-test .taken)
-    (c .blend-c .ensures ∙ rw (at-centre test))
+    (q .blend-c .ensures ∙ rw (at-centre test))
 
 same-length : tie.Need-same-length Inv-loop μ-loop
 same-length c = omega arith
@@ -117,6 +124,8 @@ segment-row-spec =
     blend-c-requires
     mul-px
     slice-write-px
+    cast-n
+    add-n
     add-x-2
     loop-less-2
     loop-again-2

@@ -1,11 +1,11 @@
 -- `paint::paint` meets its contract, each return by its law. Assumes nothing.
-use mathlib.Core.Path.{refl, sym, ap, _∙_}
+use mathlib.Core.Path.{sym, ap, _∙_}
 use Rattle.sheet.specs.declared.check.Verdict.{Verdict}
 use Rattle.items.specs.Format.{format, zeroWord}
-use Rattle.redraw.specs.Sheet.{answer}
-use Rattle.redraw.proofs.Rules.{paint-refused, does-refused, does-drawn}
+use Rattle.redraw.proofs.Rules.{paint-refused, does-refused}
 use Rattle.items.proofs.Readings.{clean, reads-refused}
-use Rattle.paint.proofs.Painting.{lent-accepted, paint-refuses, paint-accepts, painted-px, painted-scratch}
+use Rattle.clips.proofs.Standing.{whole}
+use Rattle.paint.proofs.Painting.{lent-accepted, paint-refuses, paint-accepts, drawn-does}
 use borrow.Author.Needs.{needs}
 use Rattle.paint.proofs.paint.Statement.{statement}
 use Rattle.paint.proofs.paint.Tie as tie
@@ -43,8 +43,8 @@ returns-2 c =
 canvas-of-requires : tie.Need-canvas-of-requires
 canvas-of-requires c κs = tt
 
-draw-all-requires : tie.Need-draw-all-requires
-draw-all-requires c κs = tt
+draw-in-requires : tie.Need-draw-in-requires
+draw-in-requires c κs = tt
 
 same-length : tie.Need-same-length
 same-length c = search needs
@@ -53,19 +53,17 @@ same-length-2 : tie.Need-same-length-2
 same-length-2 c = search needs
 
 returns-3 : tie.Need-returns-3
-unfolding answer
 returns-3 c =
-    let v = c .before .before .before .before .before .before .before .before .before .before .before .check-sheet in
-    let a = c .before .before .before .before .before .before .before .before .before .before .before .before .before .before .before .args in
-    let ok = clean (a .sheet .now) (sym (ap (λ (r : Verdict). r .number) (v .ensures)) ∙ c .before .before .before .before .before .before .before .before .before .before .if1 .left) in
-    let z = sym (c .before .before .before .before .before .before .before .before .before .lent-number .ensures) ∙ c .before .before .before .before .before .before .before .before .if2 .left in
-    let l = lent-accepted (a .sheet .now) _ _ z in
-    let k = c .before .before .before .before .before .before .before .canvas-of .ensures in
-    let d = rw k at (c .before .before .before .before .draw-all .ensures) in
-    rw k
-    (does-drawn zeroWord format (a .px .now) (a .scratch .now) _ _ _ _ _ (paint-accepts (a .sheet .now) ok _ _ z) refl
-    (d .paints ∙ painted-px (a .sheet .now) ok (a .px .now) (a .scratch .now) (l .0) (l .1))
-    (d .clears ∙ painted-scratch (a .sheet .now) ok (a .px .now) (a .scratch .now) (l .0) (l .1)))
+    let d = c .before .before .before .before in
+    let k = d .before .before .before in
+    let n = k .before .before in
+    let v = n .before .before in
+    let a = v .before .before .before .before .args in
+    let s = a .sheet .now in
+    let ok = clean s (sym (ap (λ (r : Verdict). r .number) (v .check-sheet .ensures)) ∙ n .before .if1 .left) in
+    let z = sym (n .lent-number .ensures) ∙ k .before .if2 .left in
+    let l = lent-accepted s _ _ z in
+    drawn-does s ok _ (whole s) (a .px .now) (a .scratch .now) (l .0) (l .1) (paint-accepts s ok _ _ z) (rw (k .canvas-of .ensures) at (d .draw-in .ensures))
 
 pub paint-spec : {M : Type 1} → statement M
 paint-spec =
@@ -78,7 +76,7 @@ paint-spec =
     refusal-requires-2
     returns-2
     canvas-of-requires
-    draw-all-requires
+    draw-in-requires
     same-length
     same-length-2
     returns-3)

@@ -1,16 +1,11 @@
 -- `patch::patch_read` meets its contract. Each return by its law. Assumes nothing.
-use mathlib.Core.Path.{_≡_, refl, sym, ap, _∙_}
-use Prim.Native.Nat.{ℕ}
+use mathlib.Core.Path.{sym, ap, _∙_}
 use borrow.Author.Tests.{not-true, not-false}
-use Rattle.items.specs.Format.{sheetOf, format, zeroWord}
-use Rattle.geom.specs.declared.IRect.{IRect}
-use Rattle.redraw.specs.Sheet.{canvas, draws, refusal}
-use Rattle.redraw.proofs.Rules.{does-refused, does-drawn}
-use Rattle.compare.specs.Compare.{found, changeBox}
+use Rattle.items.specs.Format.{format, zeroWord}
+use Rattle.redraw.proofs.Rules.{does-refused}
 use Rattle.compare.specs.declared.Difference.{Difference}
-use Rattle.paint.proofs.Painting.{lent-accepted}
-use Rattle.patch.specs.Patch.{drawnBox}
-use Rattle.patch.proofs.Patching.{same-width, other-header, not-allowed, not-lent, drawn-new, reports, box-clip, box-fits, patched-px, patched-scratch}
+use Rattle.paint.proofs.Painting.{lent-accepted, drawn-does}
+use Rattle.patch.proofs.Patching.{other-header, not-allowed, not-lent, drawn-new, box-clip}
 use borrow.Author.Needs.{needs}
 use Rattle.patch.proofs.patch_read.Statement.{statement}
 use Rattle.patch.proofs.patch_read.Tie as tie
@@ -41,7 +36,7 @@ returns-2 c =
     does-refused zeroWord format (a .args .px .now) (a .args .scratch .now) _ _ 0 _
     (not-allowed (a .args .old .now) (a .args .new .now) (a .pre .first) (a .pre .second) _ _ (sym (c .before .before .before .before .same-header .ensures) ∙ not-false _ (c .before .before .before .if1 .left))
     (λ z. c .before .if2 .taken (d ∙ z)))
-    (c .refusal2 .ensures ∙ ap (λ (m : ℕ). refusal m 0) d)
+    (c .refusal2 .ensures ∙ rw d)
 
 lent-number-requires : tie.Need-lent-number-requires
 lent-number-requires c κs = tt
@@ -59,15 +54,8 @@ returns-3 c =
     (sym d ∙ c .before .before .before .if2 .left) (λ z. c .before .if3 .taken (l ∙ z)))
     (c .refusal3 .ensures ∙ rw l)
 
--- the box lies within px, in rows of either sheet's width
 draw-in-requires : tie.Need-draw-in-requires
-draw-in-requires c κs =
-    let a = c .before .before .before .before .before .before .before .before .before .before .before .before .before in
-    let h = sym (c .before .before .before .before .before .before .before .before .same-header .ensures) ∙ not-false _ (c .before .before .before .before .before .before .before .if1 .left) in
-    let e = ap (λ (r : Difference). r .area) (c .before .before .before .before .before .before .changed .ensures) in
-    let z = sym (c .before .before .before .before .lent-number .ensures) ∙ c .before .before .before .if3 .left in
-    simp (e, same-width (a .args .old .now) (a .args .new .now) h)
-    (box-fits (a .args .new .now) (a .pre .second) _ (box-clip (a .args .old .now) (a .args .new .now)) (a .args .px .now) (lent-accepted (a .args .new .now) _ _ z .0))
+draw-in-requires c κs = tt
 
 same-length : tie.Need-same-length
 same-length c = search needs
@@ -77,25 +65,20 @@ same-length-2 c = search needs
 
 returns-4 : tie.Need-returns-4
 returns-4 c =
-    let a = c .before .before .before .before .before .before .before .before .before .before .before .before .before .before .before .before .before .before in
+    let d = c .before .before .before .before in
+    let n = d .before .before .before .before in
+    let g = n .before .before in
+    let h = g .before .before in
+    let a = h .before .before .before .before .before in
     let old = a .args .old .now in
     let new = a .args .new .now in
-    let px = a .args .px .now in
-    let scratch = a .args .scratch .now in
-    let box = changeBox (canvas (sheetOf new)) (found old new) in
-    let h = sym (c .before .before .before .before .before .before .before .before .before .before .before .before .before .same-header .ensures) ∙ not-false _ (c .before .before .before .before .before .before .before .before .before .before .before .before .if1 .left) in
-    let e : c .before .before .before .before .before .before .before .before .before .before .before .changed .result .area ≡ box = ap (λ (r : Difference). r .area) (c .before .before .before .before .before .before .before .before .before .before .before .changed .ensures) in
-    let d = ap (λ (r : Difference). r .number) (c .before .before .before .before .before .before .before .before .before .before .before .changed .ensures) in
-    let z = sym (c .before .before .before .before .before .before .before .before .before .lent-number .ensures) ∙ c .before .before .before .before .before .before .before .before .if3 .left in
+    let same = sym (h .same-header .ensures) ∙ not-false _ (g .before .if1 .left) in
+    let number = ap (λ (r : Difference). r .number) (g .changed .ensures) in
+    let area = ap (λ (r : Difference). r .area) (g .changed .ensures) in
+    let z = sym (n .lent-number .ensures) ∙ d .before .before .before .if3 .left in
     let l = lent-accepted new _ _ z in
-    let k = box-clip old new in
-    let p : c .before .before .before .before .draw-in .last .1 .1 .0 ≡ drawnBox new box px scratch .px = c .before .before .before .before .draw-in .ensures .paints ∙ ap (λ (b : IRect). drawnBox new b px scratch .px) e in
-    let s : c .before .before .before .before .draw-in .last .1 .1 .1 .0 ≡ drawnBox new box px scratch .scratch = c .before .before .before .before .draw-in .ensures .clears ∙ ap (λ (b : IRect). drawnBox new b px scratch .scratch) e in
-    does-drawn zeroWord format px scratch _ (draws (sheetOf new) box) _ _ _
-    (drawn-new old new (a .pre .first) (a .pre .second) _ _ h (sym d ∙ c .before .before .before .before .before .before .before .before .before .before .if2 .left) z)
-    (reports (sheetOf new) box _ refl refl e)
-    (p ∙ patched-px new (a .pre .second) _ k px (l .0) scratch (l .1))
-    (s ∙ patched-scratch new (a .pre .second) _ k px (l .0) scratch (l .1))
+    drawn-does new (a .pre .second) _ (box-clip old new) (a .args .px .now) (a .args .scratch .now) (l .0) (l .1)
+    (drawn-new old new (a .pre .first) (a .pre .second) _ _ same (sym number ∙ n .before .if2 .left) z) (rw area at (d .draw-in .ensures))
 
 pub patch-read-spec : {M : Type 1} → statement M
 patch-read-spec =

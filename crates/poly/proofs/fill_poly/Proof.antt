@@ -1,15 +1,17 @@
 -- `poly::fill_poly` meets its contract. Assumes nothing.
 use mathlib.Core.Path.{_≡_, sym, _∙_}
+use native.Mathlib.Omega.{arith}
 use lib.ListN.{length}
 use Rattle.geom.specs.Int.{up}
 use Rattle.draw.specs.Areas.{clipTo, AreaFits}
 use Rattle.draw.proofs.Clips.{drawn-clip}
+use Rattle.draw.proofs.Loops.{drew-as}
 use Rattle.paints.specs.Paints.{paintOk}
 use Rattle.gfx.specs.Points.{pointsNumber}
-use Rattle.gfx.proofs.Coords.{OpenPoints, points-open}
+use Rattle.gfx.proofs.Coords.{OpenPoints, points-open, points-few}
 use Rattle.gfx.proofs.Fits.{canvas-fits}
 use Rattle.poly.specs.Poly.{polyReach, polyInk}
-use Rattle.poly.proofs.Calls.{count-of, width-back, number-refused, refused-fill, lent-fill}
+use Rattle.poly.proofs.Calls.{width-back, number-refused, refused-fill, lent-fill}
 use borrow.Author.Needs.{needs}
 use Rattle.poly.proofs.fill_poly.Statement.{statement}
 use Rattle.poly.proofs.fill_poly.Tie as tie
@@ -53,7 +55,10 @@ fill-lent-requires c κs =
     let o = accepted t in
     let fits : AreaFits (w .nat-of .result) (clipTo (polyReach (at .pts .now)) (at .canvas .clip)) (length (at .px .now)) =
     rw (pitch-is w) (canvas-fits (at .canvas) (length (at .px .now)) (polyReach (at .pts .now)) (o .canvas)) in
-    (fits, (count-of (at .pts .now) (o .points), o .coords))
+    (fits, (points-few (at .pts .now) (o .points), o .coords))
+
+cast-steps : tie.Need-cast-steps
+cast-steps c = omega (arith, c .before .before .before .before .before .fill-lent .ensures .1 .0 .few)
 
 same-length : tie.Need-same-length
 same-length c = search needs
@@ -63,13 +68,13 @@ same-length-2 c = search needs
 
 returns-2 : tie.Need-returns-2
 returns-2 c =
-    let f = c .before .before .before .before in
+    let f = c .before .before .before .before .before in
     let w = f .before .before .before .before in
     let t = w .before .before in
     let at = t .before .before .before .before .before .before .args in
     lent-fill (at .canvas) (at .px .now) (at .pts .now) (at .paint) (at .scratch .now) (passed t)
     (f .fill-lent .ensures .0)
-    (f .fill-lent .ensures .1 .0 ∙ rw (pitch-is w, drawn-clip (up (at .canvas .w)) (at .canvas .clip) (polyReach (at .pts .now)) (polyInk (at .pts .now) (at .paint)) (at .px .now)))
+    (drew-as (f .fill-lent .ensures .1 .0) (rw (pitch-is w, drawn-clip (up (at .canvas .w)) (at .canvas .clip) (polyReach (at .pts .now)) (polyInk (at .pts .now) (at .paint)) (at .px .now))))
     (f .fill-lent .ensures .1 .1)
 
 pub fill-poly-spec : {M : Type 1} → statement M
@@ -81,6 +86,7 @@ fill-poly-spec =
     returns
     nat-of-requires
     fill-lent-requires
+    cast-steps
     same-length
     same-length-2
     returns-2)

@@ -1,5 +1,5 @@
 -- `render::draw_chain` meets its contract. Assumes nothing.
-use mathlib.Core.Path.{_≡_, sym, ap, _∙_}
+use mathlib.Core.Path.{_≡_, refl, sym, ap, _∙_}
 use Prim.Native.Nat.{_*_, _≤_}
 use native.Mathlib.Omega.{arith}
 use lib.ListN.{length, take}
@@ -8,13 +8,13 @@ use borrow.Author.Needs.{needs}
 use borrow.Author.Tests.{lt-leb, le-leb}
 use Rattle.items.proofs.PolyPoints.{coords-length, coords-take}
 use Rattle.items.specs.Items.{coordsFrom}
-use Rattle.render.specs.Stages.{chainPx}
+use Rattle.render.specs.Stages.{chainPx, chainSteps}
 use Rattle.render.proofs.draw_chain.Statement.{statement}
 use Rattle.render.proofs.draw_chain.Tie as tie
 
 returns : tie.Need-returns
-unfolding chainPx
-returns c = simp (lt-leb _ _ (c .if1 .taken))
+unfolding chainPx chainSteps
+returns c = simp (lt-leb _ _ (c .if1 .taken)) (refl, refl)
 
 coords-requires : tie.Need-coords-requires
 coords-requires c κs = tt
@@ -38,7 +38,7 @@ same-length : tie.Need-same-length
 same-length c = search needs
 
 returns-2 : tie.Need-returns-2
-unfolding chainPx
+unfolding chainPx chainSteps
 returns-2 c =
     let f = c .before .before .polyline .ensures in
     let a = c .before .before .before .before .before .before .before .before .before .args in
@@ -46,7 +46,7 @@ returns-2 c =
     let short : 2 * a .count ≤ 128 = omega arith in
     let pts : take (2 * a .count) (c .before .before .before .before .before .coords .result) ≡ coordsFrom (a .b .now) 12 (2 * a .count) =
     ap (take (2 * a .count)) (c .before .before .before .before .before .coords .ensures) ∙ coords-take (a .b .now) 12 (2 * a .count) 128 short in
-    rw (le-leb (a .count) 64 few, ← pts) (f .paints)
+    rw (le-leb (a .count) 64 few, ← pts) (f .called .paints, f .counts)
 
 pub draw-chain-spec : {M : Type 1} → statement M
 draw-chain-spec =

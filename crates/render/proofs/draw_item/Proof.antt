@@ -1,6 +1,6 @@
 -- `render::draw_item` meets its contract. Assumes nothing.
 use borrow.Author.Needs.{needs}
-use Rattle.render.specs.Stages.{stageAfter}
+use Rattle.render.specs.Stages.{itemSteps}
 use Rattle.render.proofs.draw_item.Statement.{statement}
 use Rattle.render.proofs.draw_item.Tie as tie
 
@@ -10,9 +10,6 @@ item-of-requires c κs = tt
 draw-shape-requires : tie.Need-draw-shape-requires
 draw-shape-requires c κs = tt
 
-state-after-requires : tie.Need-state-after-requires
-state-after-requires c κs = tt
-
 same-length : tie.Need-same-length
 same-length c = search needs
 
@@ -20,19 +17,10 @@ same-length-2 : tie.Need-same-length-2
 same-length-2 c = search needs
 
 returns : tie.Need-returns
-unfolding stageAfter
+unfolding itemSteps
 returns c =
-    let d = c .before .before .before .before .before .draw-shape .ensures in
-    let e = c .before .before .before .before .before .before .before .before .item-of .ensures in
-    rw (c .state-after .ensures, d .paints, d .clears, e)
+    let d = c .before .before .before .before in
+    rw (d .before .before .before .item-of .ensures) at (d .draw-shape .ensures)
 
 pub draw-item-spec : {M : Type 1} → statement M
-draw-item-spec =
-    tie.close
-    (tie.spec
-    item-of-requires
-    draw-shape-requires
-    state-after-requires
-    same-length
-    same-length-2
-    returns)
+draw-item-spec = tie.close (tie.spec item-of-requires draw-shape-requires same-length same-length-2 returns)

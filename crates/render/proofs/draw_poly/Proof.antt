@@ -6,6 +6,8 @@ use lib.ListN.{length, take}
 use lib.Seq.{length-take-le}
 use borrow.Author.Needs.{needs}
 use borrow.Author.Tests.{lt-leb, le-leb}
+use Rattle.draw.proofs.Counts.{differ-same}
+use Rattle.gfx.proofs.Steps.{steps-left}
 use Rattle.items.proofs.PolyPoints.{coords-length, coords-take}
 use Rattle.items.specs.Items.{coordsFrom}
 use Rattle.render.specs.Stages.{polyPx, polyScratch}
@@ -14,7 +16,7 @@ use Rattle.render.proofs.draw_poly.Tie as tie
 
 returns : tie.Need-returns
 unfolding polyPx polyScratch
-returns c = simp (lt-leb _ _ (c .if1 .taken)) (record { paints = refl; clears = refl })
+returns c = simp (lt-leb _ _ (c .if1 .taken)) (record { paints = refl; clears = refl; counts = sym (differ-same _) })
 
 coords-requires : tie.Need-coords-requires
 coords-requires c κs = tt
@@ -49,7 +51,7 @@ returns-2 c =
     let short : 2 * a .count ≤ 128 = omega arith in
     let pts : take (2 * a .count) (c .before .before .before .before .before .before .before .before .coords .result) ≡ coordsFrom (a .b .now) 32 (2 * a .count) =
     ap (take (2 * a .count)) (c .before .before .before .before .before .before .before .before .coords .ensures) ∙ coords-take (a .b .now) 32 (2 * a .count) 128 short in
-    rw (le-leb (a .count) 64 few, ← pts) (record { paints = f .called .paints; clears = f .clears })
+    rw (le-leb (a .count) 64 few, ← pts) (record { paints = f .called .called .paints; clears = f .clears; counts = steps-left (f .called) })
 
 pub draw-poly-spec : {M : Type 1} → statement M
 draw-poly-spec =

@@ -6,7 +6,7 @@ use Rattle.replay_stored.proofs.buffer.Statement.{statement}
 use Rattle.replay_stored.proofs.buffer.Tie as tie
 
 returns : tie.Need-returns
-returns c = sym (length-replicate {A = ℕ} 400000 0)
+returns c = sym (length-replicate {A = ℕ} 420000 0)
 
 pub buffer-spec : {M : Type 1} → statement M
 buffer-spec = tie.close (tie.spec returns)

@@ -3,6 +3,7 @@ use mathlib.Core.Path.{_≡_, ap, _∙_}
 use Prim.Native.Nat.{ℕ, _+_, _-_}
 use native.Mathlib.Omega.{arith}
 use Rattle.color.specs.Inks.{over}
+use Rattle.draw.proofs.Loops.{drew-as}
 use Rattle.draw.proofs.Rows.{row-same}
 use Rattle.paints.specs.Paints.{centreOf}
 use Rattle.shadow.specs.Shadow.{cornerSide}
@@ -28,11 +29,11 @@ unfolding Holds cornerInk eachInk sideAlpha
 returns c =
     let alphas = c .before .before .before .before .before in
     let a = alphas .before .before .args in
-    c .before .before .each-span .ensures
-    ∙ row-same (a .w) _ _ _ (a .x0) (a .x1) (a .y)
+    drew-as (c .before .before .each-span .ensures)
+    (row-same (a .w) _ _ _ (a .x0) (a .x1) (a .y)
     (λ x p l h.
     let same : a .x0 + (x - a .x0) ≡ x = omega arith in
-    ap (over p (a .h .c)) (alphas .corner-alphas .ensures (x - a .x0) (omega arith) (omega arith) ∙ ap (λ (k : ℕ). cornerSide (a .h .s) (a .h .c .a) (a .h .blur) (a .qy) (centreOf k)) same))
+    ap (over p (a .h .c)) (alphas .corner-alphas .ensures (x - a .x0) (omega arith) (omega arith) ∙ ap (λ (k : ℕ). cornerSide (a .h .s) (a .h .c .a) (a .h .blur) (a .qy) (centreOf k)) same)))
 
 pub corner-part-spec : {M : Type 1} → statement M
 corner-part-spec =

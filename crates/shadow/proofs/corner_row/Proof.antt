@@ -1,5 +1,9 @@
 -- `shadow::corner_row` meets its contract. Assumes nothing.
+use Prim.Native.Nat.{_+_}
 use native.Mathlib.Omega.{arith}
+use mir.Syntax.{w32}
+use mir.Val.{Fits}
+use Rattle.draw.proofs.Loops.{clamped-order, three-fit}
 use Rattle.shadow.specs.Shadow.{cornerFrom, cornerUpto}
 use Rattle.shadow.specs.Spans.{flatInk, cornerInk, cornerRowInk}
 use Rattle.shadow.proofs.Parts.{parts, corner-out, corner-in}
@@ -33,6 +37,24 @@ flat-span-requires c κs = omega arith
 corner-span-requires-2 : tie.Need-corner-span-requires-2
 corner-span-requires-2 c κs = (omega arith, c .before .before .before .before .before .before .before .before .before .before .before .before .before .before .before .before .pre .1)
 
+-- the counts of the three parts can be added
+sums : (c : tie.After-corner-span2) → let flat = c .before .before .before .before in let left = flat .before .before .before .before in
+    Fits w32 (left .corner-span .result + flat .flat-span .result) × Fits w32 (left .corner-span .result + flat .flat-span .result + c .corner-span2 .result)
+sums c =
+    let flat = c .before .before .before .before in
+    let left = flat .before .before .before .before in
+    let mid = left .before .before in
+    let ends = mid .before .before in
+    let st = ends .before .before .before .before .before in
+    three-fit (st .pre .0 .wide) (clamped-order _ _ (st .pre .0 .order) (ends .before .before .between .ensures) (ends .between2 .ensures))
+    (left .corner-span .ensures .few) (flat .flat-span .ensures .few) (c .corner-span2 .ensures .few)
+
+add-result : tie.Need-add-result
+add-result c = sums (c .before .before) .0
+
+add-result-2 : tie.Need-add-result-2
+add-result-2 c = sums (c .before .before) .1
+
 same-length : tie.Need-same-length
 same-length c = omega arith
 
@@ -65,5 +87,7 @@ corner-row-spec =
     corner-span-requires
     flat-span-requires
     corner-span-requires-2
+    add-result
+    add-result-2
     same-length
     returns)

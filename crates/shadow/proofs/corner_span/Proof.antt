@@ -8,10 +8,10 @@ use Rattle.shadow.proofs.corner_span.Statement.{statement}
 use Rattle.shadow.proofs.corner_span.Tie as tie
 
 abbrev Inv-loop : tie.InvT-loop
-Inv-loop px₀ lut w y x0 x1 h qy x₀ px x = InRow w (cornerInk (h .s) (h .blur) (h .c) qy) y x0 x1 px₀ px x
+Inv-loop px₀ lut w y x0 x1 h qy x₀ n₀ px x n = InRow w (cornerInk (h .s) (h .blur) (h .c) qy) y x0 x1 px₀ px n x
 
 abbrev μ-loop : tie.MeasureT-loop
-μ-loop px₀ lut w y x0 x1 h qy x₀ px x = x1 - x
+μ-loop px₀ lut w y x0 x1 h qy x₀ n₀ px x n = x1 - x
 
 loop-holds : tie.Need-loop-holds Inv-loop μ-loop
 loop-holds c =
@@ -27,6 +27,9 @@ between-requires c κs = omega arith
 corner-part-requires : tie.Need-corner-part-requires Inv-loop μ-loop
 corner-part-requires c κs =
     (omega arith, (c .before .before .before .before .before .pre .1, omega arith))
+
+add-n : tie.Need-add-n Inv-loop μ-loop
+add-n c = omega arith
 
 loop-less : tie.Need-loop-less Inv-loop μ-loop
 loop-less c = omega arith
@@ -53,6 +56,7 @@ corner-span-spec =
     add-between
     between-requires
     corner-part-requires
+    add-n
     loop-less
     loop-again
     same-length

@@ -1,16 +1,16 @@
 -- `shadow::each_span` meets its contract. The columns before x are drawn. Assumes nothing.
 use Prim.Native.Nat.{_-_}
 use native.Mathlib.Omega.{arith}
-use Rattle.draw.proofs.Loops.{InRow, row-start, row-next, row-end}
+use Rattle.draw.proofs.Loops.{InRow, row-start, row-next, row-end, bit-most}
 use Rattle.shadow.specs.Spans.{eachInk}
 use Rattle.shadow.proofs.each_span.Statement.{statement}
 use Rattle.shadow.proofs.each_span.Tie as tie
 
 abbrev Inv-loop : tie.InvT-loop
-Inv-loop px₀ alphas w y x0 x1 c row x₀ px x = InRow w (eachInk c x0 alphas) y x0 x1 px₀ px x
+Inv-loop px₀ alphas w y x0 x1 c row n₀ x₀ px n x = InRow w (eachInk c x0 alphas) y x0 x1 px₀ px n x
 
 abbrev μ-loop : tie.MeasureT-loop
-μ-loop px₀ alphas w y x0 x1 c row x₀ px x = x1 - x
+μ-loop px₀ alphas w y x0 x1 c row n₀ x₀ px n x = x1 - x
 
 mul-row : tie.Need-mul-row Inv-loop μ-loop
 mul-row c = omega arith
@@ -45,6 +45,12 @@ mul-px c = omega arith
 slice-write-px : tie.Need-slice-write-px Inv-loop μ-loop
 slice-write-px c = omega arith
 
+cast-n : tie.Need-cast-n Inv-loop μ-loop
+cast-n c = omega arith
+
+add-n : tie.Need-add-n Inv-loop μ-loop
+add-n c = omega (arith, bit-most (c .before .over-wide .result .altered))
+
 add-x : tie.Need-add-x Inv-loop μ-loop
 add-x c = omega arith
 
@@ -53,7 +59,7 @@ loop-less c = omega arith
 
 loop-again : tie.Need-loop-again Inv-loop μ-loop
 unfolding eachInk
-loop-again c = row-next (c .before .before .before .before .before .before .pre .0) (c .before .before .before .before .loop .inv) (c .before .before .before .loop-test .taken) (c .over-wide .ensures)
+loop-again c = let q = c .before in row-next (q .before .before .before .before .before .before .pre .0) (q .before .before .before .before .loop .inv) (q .before .before .before .loop-test .taken) (q .over-wide .ensures)
 
 same-length : tie.Need-same-length Inv-loop μ-loop
 same-length c = omega arith
@@ -78,6 +84,8 @@ each-span-spec =
     over-wide-requires
     mul-px
     slice-write-px
+    cast-n
+    add-n
     add-x
     loop-less
     loop-again

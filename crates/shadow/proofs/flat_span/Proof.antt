@@ -1,16 +1,16 @@
 -- `shadow::flat_span` meets its contract. The columns before x are drawn. Assumes nothing.
 use Prim.Native.Nat.{_-_}
 use native.Mathlib.Omega.{arith}
-use Rattle.draw.proofs.Loops.{InRow, row-start, row-next, row-end}
+use Rattle.draw.proofs.Loops.{InRow, row-start, row-next, row-end, bit-most}
 use Rattle.shadow.specs.Spans.{flatInk}
 use Rattle.shadow.proofs.flat_span.Statement.{statement}
 use Rattle.shadow.proofs.flat_span.Tie as tie
 
 abbrev Inv-loop : tie.InvT-loop
-Inv-loop px₀ w y x0 x1 c v row x₀ px x = InRow w (flatInk c v) y x0 x1 px₀ px x
+Inv-loop px₀ w y x0 x1 c v row n₀ x₀ px n x = InRow w (flatInk c v) y x0 x1 px₀ px n x
 
 abbrev μ-loop : tie.MeasureT-loop
-μ-loop px₀ w y x0 x1 c v row x₀ px x = x1 - x
+μ-loop px₀ w y x0 x1 c v row n₀ x₀ px n x = x1 - x
 
 mul-row : tie.Need-mul-row Inv-loop μ-loop
 mul-row c = omega arith
@@ -38,6 +38,12 @@ mul-px c = omega arith
 slice-write-px : tie.Need-slice-write-px Inv-loop μ-loop
 slice-write-px c = omega arith
 
+cast-n : tie.Need-cast-n Inv-loop μ-loop
+cast-n c = omega arith
+
+add-n : tie.Need-add-n Inv-loop μ-loop
+add-n c = omega (arith, bit-most (c .before .over .result .altered))
+
 add-x : tie.Need-add-x Inv-loop μ-loop
 add-x c = omega arith
 
@@ -47,9 +53,10 @@ loop-less c = omega arith
 loop-again : tie.Need-loop-again Inv-loop μ-loop
 unfolding flatInk
 loop-again c =
-    let turn = c .before .before in
+    let q = c .before in
+    let turn = q .before .before in
     let loop = turn .before in
-    row-next (loop .before .before .pre) (loop .loop .inv) (turn .loop-test .taken) (c .over .ensures)
+    row-next (loop .before .before .pre) (loop .loop .inv) (turn .loop-test .taken) (q .over .ensures)
 
 same-length : tie.Need-same-length Inv-loop μ-loop
 same-length c = omega arith
@@ -71,6 +78,8 @@ flat-span-spec =
     over-requires
     mul-px
     slice-write-px
+    cast-n
+    add-n
     add-x
     loop-less
     loop-again

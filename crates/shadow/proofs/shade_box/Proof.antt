@@ -7,10 +7,10 @@ use Rattle.shadow.proofs.shade_box.Statement.{statement}
 use Rattle.shadow.proofs.shade_box.Tie as tie
 
 abbrev Inv-loop : tie.InvT-loop
-Inv-loop px₀ lut cols w h skip x0 x1 y0 y1 y₀ px y = InRows w (shadeInk (h .s) (h .blur) (h .c) skip) x0 x1 y0 y1 px₀ px y
+Inv-loop px₀ lut cols w h skip x0 x1 y0 y1 n₀ y₀ px n y = InRows w (shadeInk (h .s) (h .blur) (h .c) skip) x0 x1 y0 y1 px₀ px n y
 
 abbrev μ-loop : tie.MeasureT-loop
-μ-loop px₀ lut cols w h skip x0 x1 y0 y1 y₀ px y = y1 - y
+μ-loop px₀ lut cols w h skip x0 x1 y0 y1 n₀ y₀ px n y = y1 - y
 
 loop-holds : tie.Need-loop-holds Inv-loop μ-loop
 loop-holds c =
@@ -23,6 +23,9 @@ shade-row-requires c κs =
     let p = l .before .before .pre in
     (row-fits (p .0) (l .loop .inv) (c .before .loop-test .taken), p .1)
 
+add-n : tie.Need-add-n Inv-loop μ-loop
+add-n c = omega arith
+
 add-y : tie.Need-add-y Inv-loop μ-loop
 add-y c = omega arith
 
@@ -31,13 +34,13 @@ loop-less c = omega arith
 
 loop-again : tie.Need-loop-again Inv-loop μ-loop
 loop-again c =
-    rows-next (c .before .before .before .before .before .loop .inv) (c .before .before .before .before .loop-test .taken) (c .before .before .shade-row .ensures)
+    rows-next (c .before .before .before .before .before .before .before .pre .0 .wide) (c .before .before .before .before .before .loop .inv) (c .before .before .before .before .loop-test .taken) (c .before .before .shade-row .ensures)
 
 same-length : tie.Need-same-length Inv-loop μ-loop
 same-length c = omega arith
 
 returns : tie.Need-returns Inv-loop μ-loop
-returns c = rows-end (c .before .loop .inv) (c .loop-test .left)
+returns c = rows-end (c .before .before .before .pre .0 .high) (c .before .loop .inv) (c .loop-test .left)
 
 pub shade-box-spec : {M : Type 1} → statement M
 shade-box-spec =
@@ -47,6 +50,7 @@ shade-box-spec =
     μ-loop
     loop-holds
     shade-row-requires
+    add-n
     add-y
     loop-less
     loop-again

@@ -1,6 +1,6 @@
 -- `shadow::shade_row` meets its contract. Assumes nothing.
-use mathlib.Core.Path.{_∙_}
 use native.Mathlib.Omega.{arith}
+use Rattle.draw.proofs.Loops.{drew-as}
 use Rattle.draw.proofs.Rows.{row-same}
 use Rattle.shadow.proofs.Parts.{straight-row, corner-row}
 use borrow.Author.Needs.{needs}
@@ -34,8 +34,8 @@ returns c =
     let k = f .before .before in
     let a = k .before .before .args in
     let e = rw (f .fabs .ensures, k .centre .ensures) at (d .if1 .taken) in
-    (rw (f .fabs .ensures, k .centre .ensures) at (c .before .before .straight-row .ensures))
-    ∙ row-same (a .w) _ _ _ (a .x0) (a .x1) (a .y) (λ x p l h. straight-row (a .h) (a .skip) (a .y) e x p)
+    drew-as (rw (f .fabs .ensures, k .centre .ensures) at (c .before .before .straight-row .ensures))
+    (row-same (a .w) _ _ _ (a .x0) (a .x1) (a .y) (λ x p l h. straight-row (a .h) (a .skip) (a .y) e x p))
 
 same-length-2 : tie.Need-same-length-2
 same-length-2 c = omega arith
@@ -47,8 +47,8 @@ returns-2 c =
     let k = f .before .before in
     let a = k .before .before .args in
     let e = rw (f .fabs .ensures, k .centre .ensures) at (d .if1 .left) in
-    (rw (f .fabs .ensures, k .centre .ensures) at (c .before .before .corner-row .ensures))
-    ∙ row-same (a .w) _ _ _ (a .x0) (a .x1) (a .y) (λ x p l h. corner-row (a .h) (a .skip) (a .y) e x p)
+    drew-as (rw (f .fabs .ensures, k .centre .ensures) at (c .before .before .corner-row .ensures))
+    (row-same (a .w) _ _ _ (a .x0) (a .x1) (a .y) (λ x p l h. corner-row (a .h) (a .skip) (a .y) e x p))
 
 pub shade-row-spec : {M : Type 1} → statement M
 shade-row-spec =

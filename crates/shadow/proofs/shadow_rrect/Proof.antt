@@ -1,12 +1,14 @@
 -- `shadow::shadow_rrect` meets its contract. Assumes nothing.
 use mathlib.Core.Path.{_≡_, _∙_, sym}
+use native.Mathlib.Omega.{arith}
 use denote.Ref.{now}
 use lib.ListN.{length}
 use Rattle.geom.specs.Int.{up}
 use Rattle.geom.proofs.Signed.{kept}
+use Rattle.draw.proofs.Loops.{drew-as}
 use Rattle.draw.proofs.Clips.{drawn-clip}
 use Rattle.gfx.specs.Calls.{shapeNumber}
-use Rattle.gfx.proofs.Answers.{refused-call, accepted-call}
+use Rattle.gfx.proofs.Answers.{refused-shape, accepted-shape}
 use Rattle.gfx.proofs.Sizes.{shape-open}
 use Rattle.gfx.proofs.Fits.{canvas-fits}
 use Rattle.shadow.specs.Shadow.{shadowOk}
@@ -35,7 +37,7 @@ shape-number-requires : tie.Need-shape-number-requires
 shape-number-requires c κs = search needs
 
 returns : tie.Need-returns
-returns c = refused-call (number (c .before)) (c .if1 .taken)
+returns c = refused-shape (number (c .before)) (c .if1 .taken)
 
 nat-of-requires : tie.Need-nat-of-requires
 nat-of-requires c κs = search needs
@@ -52,6 +54,9 @@ shade-area-requires c κs =
     let d = n .before .before in
     rw (wide n, c .before .clipped .ensures) (canvas-fits _ _ _ (shape-open _ _ _ (sym (number (d .before)) ∙ d .if1 .left)))
 
+cast-steps : tie.Need-cast-steps
+cast-steps c = omega (arith, c .before .before .shade-area .ensures .few)
+
 same-length : tie.Need-same-length
 same-length c = search needs
 
@@ -62,7 +67,7 @@ returns-2 c =
     let n = k .before .before .before in
     let d = n .before .before in
     let e = rw (wide n, k .clipped .ensures, k .before .shadow-reach .ensures) at (a .shade-area .ensures) in
-    rw (e ∙ sym (drawn-clip _ _ _ _ _)) (accepted-call (number (d .before)) (d .if1 .left))
+    accepted-shape (number (d .before)) (d .if1 .left) (drew-as e (sym (drawn-clip _ _ _ _ _)))
 
 pub shadow-rrect-spec : {M : Type 1} → statement M
 shadow-rrect-spec =
@@ -76,5 +81,6 @@ shadow-rrect-spec =
     shadow-reach-requires
     clipped-requires
     shade-area-requires
+    cast-steps
     same-length
     returns-2)

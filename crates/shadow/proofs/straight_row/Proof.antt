@@ -1,5 +1,9 @@
 -- `shadow::straight_row` meets its contract. Assumes nothing.
+use Prim.Native.Nat.{_+_}
 use native.Mathlib.Omega.{arith}
+use mir.Syntax.{w32}
+use mir.Val.{Fits}
+use Rattle.draw.proofs.Loops.{clamped-order, three-fit}
 use Rattle.shadow.specs.Shadow.{straightFrom, straightUpto}
 use Rattle.shadow.specs.Spans.{columnAlpha, flatInk, straightInk, straightRowInk}
 use Rattle.shadow.proofs.Parts.{parts, straight-out, straight-in}
@@ -43,6 +47,24 @@ straight-span-requires-2 c κs =
     let a = st .args in
     (omega (arith, c .before .before .before .before .before .before .before .before .before .before .before .between2 .ensures, c .before .before .before .before .before .before .before .before .before .before .before .before .before .between .ensures, st .pre .0), (held-part (columnAlpha (a .h)) (a .x0) (a .x1) _ (st .pre .1 .1) (omega (arith, c .before .before .before .before .before .before .before .before .before .before .before .between2 .ensures, c .before .before .before .before .before .before .before .before .before .before .before .before .before .between .ensures, st .pre .0)) (omega (arith, st .pre .0)), c .before .before .before .before .before .before .before .before .before .alpha-of .ensures))
 
+-- the counts of the three parts can be added
+sums : (c : tie.After-straight-span2) → let flat = c .before .before .before .before in let left = flat .before .before .before .before in
+    Fits w32 (left .straight-span .result + flat .flat-span .result) × Fits w32 (left .straight-span .result + flat .flat-span .result + c .straight-span2 .result)
+sums c =
+    let flat = c .before .before .before .before in
+    let left = flat .before .before .before .before in
+    let mid = left .before .before .before in
+    let st = mid .before .before .before .before .before .before in
+    let ends = mid .before in
+    three-fit (st .pre .0 .wide) (clamped-order _ _ (st .pre .0 .order) (ends .before .before .between .ensures) (ends .between2 .ensures))
+    (left .straight-span .ensures .few) (flat .flat-span .ensures .few) (c .straight-span2 .ensures .few)
+
+add-result : tie.Need-add-result
+add-result c = sums (c .before .before) .0
+
+add-result-2 : tie.Need-add-result-2
+add-result-2 c = sums (c .before .before) .1
+
 same-length : tie.Need-same-length
 same-length c = omega arith
 
@@ -75,5 +97,7 @@ straight-row-spec =
     straight-span-requires
     flat-span-requires
     straight-span-requires-2
+    add-result
+    add-result-2
     same-length
     returns)

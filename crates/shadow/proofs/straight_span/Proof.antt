@@ -2,17 +2,17 @@
 use native.Mathlib.Omega.{arith}
 use Prim.Native.Nat.{_-_}
 use mathlib.Core.Path.{_∙_}
-use Rattle.draw.proofs.Loops.{InRow, row-start, row-next, row-end}
+use Rattle.draw.proofs.Loops.{InRow, row-start, row-next, row-end, bit-most}
 use Rattle.draw.specs.Held.{Holds}
 use Rattle.shadow.specs.Spans.{straightInk}
 use Rattle.shadow.proofs.straight_span.Statement.{statement}
 use Rattle.shadow.proofs.straight_span.Tie as tie
 
 abbrev Inv-loop : tie.InvT-loop
-Inv-loop px₀ cols w y x0 x1 h sdy v row x₀ px x = InRow w (straightInk (h .s) (h .blur) (h .c) sdy) y x0 x1 px₀ px x
+Inv-loop px₀ cols w y x0 x1 h sdy v row n₀ x₀ px n x = InRow w (straightInk (h .s) (h .blur) (h .c) sdy) y x0 x1 px₀ px n x
 
 abbrev μ-loop : tie.MeasureT-loop
-μ-loop px₀ cols w y x0 x1 h sdy v row x₀ px x = x1 - x
+μ-loop px₀ cols w y x0 x1 h sdy v row n₀ x₀ px n x = x1 - x
 
 mul-row : tie.Need-mul-row Inv-loop μ-loop
 mul-row c = omega arith
@@ -49,6 +49,12 @@ mul-px c = omega arith
 slice-write-px : tie.Need-slice-write-px Inv-loop μ-loop
 slice-write-px c = omega arith
 
+cast-n : tie.Need-cast-n Inv-loop μ-loop
+cast-n c = omega arith
+
+add-n : tie.Need-add-n Inv-loop μ-loop
+add-n c = omega (arith, bit-most (c .before .over-wide .result .altered))
+
 add-x : tie.Need-add-x Inv-loop μ-loop
 add-x c = omega arith
 
@@ -58,12 +64,13 @@ loop-less c = omega arith
 loop-again : tie.Need-loop-again Inv-loop μ-loop
 unfolding straightInk Holds
 loop-again c =
-    let side = c .before .before in
+    let q = c .before in
+    let side = q .before .before in
     let turn = side .before .before in
     let loop = turn .before in
     let start = loop .before .before in
     row-next (start .pre .0) (loop .loop .inv) (turn .loop-test .taken)
-    (c .over-wide .ensures ∙ rw (side .straight-side .ensures (start .pre .1 .0 (loop .loop .x) (loop .loop .inv .from) (turn .loop-test .taken)) (start .pre .1 .1)))
+    (q .over-wide .ensures ∙ rw (side .straight-side .ensures (start .pre .1 .0 (loop .loop .x) (loop .loop .inv .from) (turn .loop-test .taken)) (start .pre .1 .1)))
 
 same-length : tie.Need-same-length Inv-loop μ-loop
 same-length c = omega arith
@@ -88,6 +95,8 @@ straight-span-spec =
     over-wide-requires
     mul-px
     slice-write-px
+    cast-n
+    add-n
     add-x
     loop-less
     loop-again

@@ -3,6 +3,7 @@ use mathlib.Core.Path.{refl, ap, _∙_}
 use Prim.Native.Nat.{ℕ, _-_}
 use native.Mathlib.Omega.{arith}
 use Rattle.color.specs.Inks.{blended}
+use Rattle.color.specs.declared.Inked.{Inked}
 use Rattle.slices.proofs.Turned.{Turning, begin, again, here, done}
 use Rattle.slices.proofs.blend.Statement.{statement}
 use Rattle.slices.proofs.blend.Tie as tie
@@ -44,7 +45,7 @@ loop-again : tie.Need-loop-again Inv-loop μ-loop
 loop-again c =
     let t = c .before .before .before .loop .inv in
     let v = c .before .before .before .before .before .args in
-    again _ _ t (c .before .before .loop-test .taken) (c .over .ensures ∙ ap (ink (v .r) (v .g) (v .b) (v .a)) (here _ _ t))
+    again _ _ t (c .before .before .loop-test .taken) (ap (λ (q : Inked). q .value) (c .over .ensures) ∙ ap (ink (v .r) (v .g) (v .b) (v .a)) (here _ _ t))
 
 same-length : tie.Need-same-length Inv-loop μ-loop
 same-length c = omega arith

@@ -8,10 +8,10 @@ use Rattle.stroke.proofs.corner_span.Statement.{statement}
 use Rattle.stroke.proofs.corner_span.Tie as tie
 
 abbrev Inv-loop : tie.InvT-loop
-Inv-loop px₀ w y x0 x1 o l x₀ px x = InRow w (bandInk (o .s) (o .width) (o .c)) y x0 x1 px₀ px x
+Inv-loop px₀ w y x0 x1 o l x₀ n₀ px x n = InRow w (bandInk (o .s) (o .width) (o .c)) y x0 x1 px₀ px n x
 
 abbrev μ-loop : tie.MeasureT-loop
-μ-loop px₀ w y x0 x1 o l x₀ px x = x1 - x
+μ-loop px₀ w y x0 x1 o l x₀ n₀ px x n = x1 - x
 
 loop-holds : tie.Need-loop-holds Inv-loop μ-loop
 loop-holds c =
@@ -26,6 +26,9 @@ between-requires c κs = omega arith
 
 corner-part-requires : tie.Need-corner-part-requires Inv-loop μ-loop
 corner-part-requires c κs = (omega arith, (c .before .before .before .before .before .pre .1, omega arith))
+
+add-n : tie.Need-add-n Inv-loop μ-loop
+add-n c = omega arith
 
 loop-less : tie.Need-loop-less Inv-loop μ-loop
 loop-less c = omega arith
@@ -43,4 +46,4 @@ returns : tie.Need-returns Inv-loop μ-loop
 returns c = row-end (c .before .loop .inv) (c .loop-test .left)
 
 pub corner-span-spec : {M : Type 1} → statement M
-corner-span-spec = tie.close (tie.spec Inv-loop μ-loop loop-holds add-between between-requires corner-part-requires loop-less loop-again same-length returns)
+corner-span-spec = tie.close (tie.spec Inv-loop μ-loop loop-holds add-between between-requires corner-part-requires add-n loop-less loop-again same-length returns)

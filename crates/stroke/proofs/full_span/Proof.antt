@@ -1,7 +1,10 @@
 -- `stroke::full_span` meets its contract. Assumes nothing.
 use mathlib.Core.Path.{refl}
+use Prim.Native.Nat.{_+_}
 use native.Mathlib.Omega.{arith}
-use Rattle.draw.proofs.Loops.{row-three}
+use mir.Syntax.{w32}
+use mir.Val.{Fits}
+use Rattle.draw.proofs.Loops.{row-three, three-fit}
 use Rattle.stroke.specs.Stroke.{bandInk}
 use Rattle.stroke.specs.Rows.{levelInk}
 use Rattle.stroke.proofs.Levels.{level-at}
@@ -19,6 +22,22 @@ corner-span-requires-2 c κs = (omega (arith, c .before .before .before .before 
 
 corner-span-requires-3 : tie.Need-corner-span-requires-3
 corner-span-requires-3 c κs = (c .before .before .before .before .pre .0, c .before .before .before .before .pre .1 .0)
+
+-- the counts of the three parts can be added
+sums : (c : tie.After-corner-span2) → let mid = c .before .before .before .before in let left = mid .before .before .before .before in
+    Fits w32 (left .corner-span .result + mid .level-span .result) × Fits w32 (left .corner-span .result + mid .level-span .result + c .corner-span2 .result)
+sums c =
+    let mid = c .before .before .before .before in
+    let left = mid .before .before .before .before in
+    let st = left .before .before .before .before .before in
+    let part = st .pre .1 .1 in
+    three-fit (st .pre .0 .wide) (part .after, part .order, part .before) (left .corner-span .ensures .few) (mid .level-span .ensures .few) (c .corner-span2 .ensures .few)
+
+add-result : tie.Need-add-result
+add-result c = sums (c .before .before) .0
+
+add-result-2 : tie.Need-add-result-2
+add-result-2 c = sums (c .before .before) .1
 
 same-length : tie.Need-same-length
 same-length c = omega arith
@@ -44,4 +63,4 @@ returns-2 : tie.Need-returns-2
 returns-2 c = c .before .before .corner-span3 .ensures
 
 pub full-span-spec : {M : Type 1} → statement M
-full-span-spec = tie.close (tie.spec corner-span-requires level-span-requires corner-span-requires-2 corner-span-requires-3 same-length returns same-length-2 returns-2)
+full-span-spec = tie.close (tie.spec corner-span-requires level-span-requires corner-span-requires-2 add-result add-result-2 corner-span-requires-3 same-length returns same-length-2 returns-2)

@@ -1,16 +1,16 @@
 -- `stroke::level_span` meets its contract. The columns before x are drawn. Assumes nothing.
 use Prim.Native.Nat.{_-_}
 use native.Mathlib.Omega.{arith}
-use Rattle.draw.proofs.Loops.{InRow, row-start, row-next, row-end}
+use Rattle.draw.proofs.Loops.{InRow, row-start, row-next, row-end, bit-most}
 use Rattle.stroke.specs.Rows.{levelInk}
 use Rattle.stroke.proofs.level_span.Statement.{statement}
 use Rattle.stroke.proofs.level_span.Tie as tie
 
 abbrev Inv-loop : tie.InvT-loop
-Inv-loop px₀ w y x0 x1 c cv row x₀ px x = InRow w (levelInk c cv) y x0 x1 px₀ px x
+Inv-loop px₀ w y x0 x1 c cv row n₀ x₀ px n x = InRow w (levelInk c cv) y x0 x1 px₀ px n x
 
 abbrev μ-loop : tie.MeasureT-loop
-μ-loop px₀ w y x0 x1 c cv row x₀ px x = x1 - x
+μ-loop px₀ w y x0 x1 c cv row n₀ x₀ px n x = x1 - x
 
 mul-row : tie.Need-mul-row Inv-loop μ-loop
 mul-row c = omega arith
@@ -36,6 +36,12 @@ mul-px c = omega arith
 slice-write-px : tie.Need-slice-write-px Inv-loop μ-loop
 slice-write-px c = omega arith
 
+cast-n : tie.Need-cast-n Inv-loop μ-loop
+cast-n c = omega arith
+
+add-n : tie.Need-add-n Inv-loop μ-loop
+add-n c = omega (arith, bit-most (c .before .blend-c .result .altered))
+
 add-x : tie.Need-add-x Inv-loop μ-loop
 add-x c = omega arith
 
@@ -44,7 +50,7 @@ loop-less c = omega arith
 
 loop-again : tie.Need-loop-again Inv-loop μ-loop
 unfolding levelInk
-loop-again c = row-next (c .before .before .before .before .before .pre) (c .before .before .before .loop .inv) (c .before .before .loop-test .taken) (c .blend-c .ensures)
+loop-again c = let q = c .before in row-next (q .before .before .before .before .before .pre) (q .before .before .before .loop .inv) (q .before .before .loop-test .taken) (q .blend-c .ensures)
 
 same-length : tie.Need-same-length Inv-loop μ-loop
 same-length c = omega arith
@@ -66,6 +72,8 @@ level-span-spec =
     blend-c-requires
     mul-px
     slice-write-px
+    cast-n
+    add-n
     add-x
     loop-less
     loop-again

@@ -1,9 +1,11 @@
 -- `stroke::outline` meets its contract. Assumes nothing.
 use mathlib.Core.Path.{_≡_, _∙_, sym}
+use native.Mathlib.Omega.{arith}
 use Rattle.geom.specs.Int.{up}
 use Rattle.geom.proofs.Signed.{kept}
 use Rattle.draw.proofs.Clips.{drawn-clip}
-use Rattle.gfx.proofs.Answers.{refused-call, accepted-call}
+use Rattle.draw.proofs.Loops.{drew-as}
+use Rattle.gfx.proofs.Answers.{refused-shape, accepted-shape}
 use Rattle.gfx.proofs.Sizes.{shape-open}
 use Rattle.gfx.proofs.Fits.{canvas-fits}
 use borrow.Author.Needs.{needs}
@@ -19,7 +21,7 @@ shape-number-requires : tie.Need-shape-number-requires
 shape-number-requires c κs = search needs
 
 returns : tie.Need-returns
-returns c = refused-call (c .before .shape-number .ensures) (c .if1 .taken)
+returns c = refused-shape (c .before .shape-number .ensures) (c .if1 .taken)
 
 nat-of-requires : tie.Need-nat-of-requires
 nat-of-requires c κs = search needs
@@ -40,6 +42,9 @@ outline-area-requires c κs =
     let d = n .before .before in
     rw (wide n, b .clipped .ensures) (canvas-fits _ _ _ (shape-open _ _ _ (sym (d .before .shape-number .ensures) ∙ d .if1 .left)))
 
+cast-steps : tie.Need-cast-steps
+cast-steps c = omega (arith, c .before .before .outline-area .ensures .few)
+
 same-length : tie.Need-same-length
 same-length c = search needs
 
@@ -49,9 +54,8 @@ returns-2 c =
     let b = o .before .before .before in
     let n = b .before .before .before in
     let d = n .before .before in
-    let d′ = rw (wide n, b .clipped .ensures, b .before .stroke-reach .ensures, o .before .of .ensures) at (o .outline-area .ensures) in
-    let e = d′ ∙ sym (drawn-clip _ _ _ _ _) in
-    rw e (accepted-call (d .before .shape-number .ensures) (d .if1 .left))
+    let e = rw (wide n, b .clipped .ensures, b .before .stroke-reach .ensures, o .before .of .ensures) at (o .outline-area .ensures) in
+    accepted-shape (d .before .shape-number .ensures) (d .if1 .left) (drew-as e (sym (drawn-clip _ _ _ _ _)))
 
 pub outline-spec : {M : Type 1} → statement M
 outline-spec =
@@ -64,5 +68,6 @@ outline-spec =
     clipped-requires
     of-requires
     outline-area-requires
+    cast-steps
     same-length
     returns-2)

@@ -3,16 +3,16 @@ use mathlib.Core.Path.{_∙_}
 use Prim.Native.Nat.{_-_}
 use native.Mathlib.Omega.{arith}
 use Rattle.draw.specs.Held.{Holds}
-use Rattle.draw.proofs.Loops.{InRow, row-start, row-next, row-end}
+use Rattle.draw.proofs.Loops.{InRow, row-start, row-next, row-end, bit-most}
 use Rattle.stroke.specs.Stroke.{bandInk}
 use Rattle.stroke.proofs.side_span.Statement.{statement}
 use Rattle.stroke.proofs.side_span.Tie as tie
 
 abbrev Inv-loop : tie.InvT-loop
-Inv-loop px₀ cols w y x0 x1 o l row x₀ px x = InRow w (bandInk (o .s) (o .width) (o .c)) y x0 x1 px₀ px x
+Inv-loop px₀ cols w y x0 x1 o l row n₀ x₀ px n x = InRow w (bandInk (o .s) (o .width) (o .c)) y x0 x1 px₀ px n x
 
 abbrev μ-loop : tie.MeasureT-loop
-μ-loop px₀ cols w y x0 x1 o l row x₀ px x = x1 - x
+μ-loop px₀ cols w y x0 x1 o l row n₀ x₀ px n x = x1 - x
 
 mul-row : tie.Need-mul-row Inv-loop μ-loop
 mul-row c = omega arith
@@ -49,6 +49,12 @@ mul-px c = omega arith
 slice-write-px : tie.Need-slice-write-px Inv-loop μ-loop
 slice-write-px c = omega arith
 
+cast-n : tie.Need-cast-n Inv-loop μ-loop
+cast-n c = omega arith
+
+add-n : tie.Need-add-n Inv-loop μ-loop
+add-n c = omega (arith, bit-most (c .before .blend-c-wide .result .altered))
+
 add-x : tie.Need-add-x Inv-loop μ-loop
 add-x c = omega arith
 
@@ -58,12 +64,13 @@ loop-less c = omega arith
 loop-again : tie.Need-loop-again Inv-loop μ-loop
 unfolding bandInk Holds
 loop-again c =
-    let side = c .before .before in
+    let q = c .before in
+    let side = q .before .before in
     let turn = side .before .before in
     let loop = turn .before in
     let p = loop .before .before .pre in
     row-next (p .0) (loop .loop .inv) (turn .loop-test .taken)
-    (c .blend-c-wide .ensures ∙ rw (side .side-cover .ensures _ _ (p .1 .0) (p .1 .1) (p .1 .2 (loop .loop .x) (loop .loop .inv .from) (turn .loop-test .taken))))
+    (q .blend-c-wide .ensures ∙ rw (side .side-cover .ensures _ _ (p .1 .0) (p .1 .1) (p .1 .2 (loop .loop .x) (loop .loop .inv .from) (turn .loop-test .taken))))
 
 same-length : tie.Need-same-length Inv-loop μ-loop
 same-length c = omega arith
@@ -72,4 +79,4 @@ returns : tie.Need-returns Inv-loop μ-loop
 returns c = row-end (c .before .loop .inv) (c .loop-test .left)
 
 pub side-span-spec : {M : Type 1} → statement M
-side-span-spec = tie.close (tie.spec Inv-loop μ-loop mul-row loop-holds mul-side-cover element-copy-out-side-cover side-cover-requires add-i mul-blend-c-wide slice-read-blend-c-wide blend-c-wide-requires mul-px slice-write-px add-x loop-less loop-again same-length returns)
+side-span-spec = tie.close (tie.spec Inv-loop μ-loop mul-row loop-holds mul-side-cover element-copy-out-side-cover side-cover-requires add-i mul-blend-c-wide slice-read-blend-c-wide blend-c-wide-requires mul-px slice-write-px cast-n add-n add-x loop-less loop-again same-length returns)

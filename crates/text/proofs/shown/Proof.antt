@@ -14,7 +14,7 @@ u16-at-requires c κs = search needs
 put-picture-requires : tie.Need-put-picture-requires
 put-picture-requires c κs =
     let taken = c .before .before .before in
-    let done = taken .before .before .before .before .before .before in
+    let done = taken .before .before .before .before .before .before .before in
     let wide = some-width _ _ _ _ _ _ (done .paint .ensures) (taken .if1 .taken) in
     (omega (arith, c .u16-at .ensures .0, wide), omega arith)
 
@@ -34,7 +34,7 @@ returns : tie.Need-returns
 returns c =
     let read = c .before .before .before in
     let taken = read .before .before .before in
-    let done = taken .before .before .before .before .before .before in
+    let done = taken .before .before .before .before .before .before .before in
     rw (picture-shown _ _ _ _ _ _ (done .paint .ensures) (taken .if1 .taken)) (rw (read .u16-at .ensures .0) at (c .before .before .put-picture .ensures))
 
 same-length-4 : tie.Need-same-length-4
@@ -49,7 +49,7 @@ same-length-6 c = search needs
 returns-2 : tie.Need-returns-2
 returns-2 c =
     let taken = c .before .before .before .before in
-    let done = taken .before .before .before .before .before .before in
+    let done = taken .before .before .before .before .before .before .before in
     rw (refusal-shown _ _ _ _ _ _ (done .paint .ensures) (taken .if1 .left)) (c .before .before .put-refusal .ensures)
 
 pub shown-spec : {M : Type 1} → statement M

@@ -2,7 +2,7 @@
 use mathlib.Core.Path.{_∙_, sym}
 use borrow.Author.Tests.{le-leb, lt-leb}
 use borrow.Author.Needs.{needs}
-use Rattle.gfx.proofs.Answers.{refused-call}
+use Rattle.gfx.proofs.Answers.{refused-shape}
 use Rattle.maldjupp.proofs.Numbers.{kind-some, kind-over, kind-fits}
 use Rattle.maldjupp.proofs.shapes.maldjupp_fill_circle.Statement.{statement}
 use Rattle.maldjupp.proofs.shapes.maldjupp_fill_circle.Tie as tie
@@ -13,7 +13,7 @@ kind-number-requires c κs = search needs
 returns : tie.Need-returns
 returns c =
     let e = c .kind-number .ensures in
-    refused-call (e ∙ kind-over _ _ _ _ (lt-leb _ 3 (c .before .if1 .taken))) (λ z. kind-some _ _ (sym e ∙ z))
+    refused-shape (e ∙ kind-over _ _ _ _ (lt-leb _ 3 (c .before .if1 .taken))) (λ z. kind-some _ _ (sym e ∙ z))
 
 paint-requires : tie.Need-paint-requires
 paint-requires c κs = search needs

@@ -2,7 +2,7 @@
 use mathlib.Core.Path.{_∙_, sym}
 use borrow.Author.Tests.{le-leb, lt-leb}
 use borrow.Author.Needs.{needs}
-use Rattle.gfx.proofs.Answers.{refused-call}
+use Rattle.gfx.proofs.Answers.{refused-shape}
 use Rattle.maldjupp.proofs.Numbers.{points-kind-some, points-kind-over, points-kind-stays, points-kind-fits}
 use Rattle.maldjupp.proofs.shapes.maldjupp_fill_poly.Statement.{statement}
 use Rattle.maldjupp.proofs.shapes.maldjupp_fill_poly.Tie as tie
@@ -15,7 +15,7 @@ returns c =
     let e = c .points-kind-number .ensures in
     let over = lt-leb _ 3 (c .before .if1 .taken) in
     record {
-      called = refused-call (e ∙ points-kind-over _ _ _ _ _ over) (λ z. points-kind-some _ _ _ (sym e ∙ z));
+      called = refused-shape (e ∙ points-kind-over _ _ _ _ _ over) (λ z. points-kind-some _ _ _ (sym e ∙ z));
       clears = points-kind-stays _ _ _ _ _ _ _ over;
     }
 

@@ -8,6 +8,7 @@ use lib.Seq.{length-take-le}
 use lib.Ieee.{Float}
 use borrow.Author.Tests.{le-leb, lt-leb}
 use Rattle.draw.specs.Areas.{clipTo, AreaFits}
+use Rattle.draw.proofs.Loops.{drew-as, drew-none}
 use Rattle.bounds.specs.Bounds.{polyBox, painted, reachOf, needOf}
 use Rattle.bounds.specs.Plans.{Near}
 use Rattle.poly.specs.Poly.{polyNeed, polyInk, cleared}
@@ -42,7 +43,7 @@ returns c =
     let k = c .before in
     let at = k .before .before .before .before .args in
     let h : length (at .scratch .now) < polyNeed (at .pts .now) = rw (need-known k) at (c .if1 .taken) in
-    rw (lt-leb (polyNeed (at .pts .now)) (length (at .scratch .now)) h) (refl, (refl, refl))
+    rw (lt-leb (polyNeed (at .pts .now)) (length (at .scratch .now)) h) (refl, (drew-none refl, refl))
 
 returns-2 : tie.Need-returns-2
 returns-2 c =
@@ -50,7 +51,7 @@ returns-2 c =
     let at = k .before .before .before .before .args in
     let e = none-painted (at .pts .now) (sym (need-known k) ∙ c .if2 .taken) in
     rw (le-leb (polyNeed (at .pts .now)) (length (at .scratch .now)) (enough (c .before)))
-    (refl, (nothing-drawn (at .pts .now) e (at .pitch) (at .clip) (polyInk (at .pts .now) (at .paint)) (at .px .now), nothing-cleared (at .pts .now) e (at .scratch .now)))
+    (refl, (drew-none (nothing-drawn (at .pts .now) e (at .pitch) (at .clip) (polyInk (at .pts .now) (at .paint)) (at .px .now)), nothing-cleared (at .pts .now) e (at .scratch .now)))
 
 slice-relend-prefix-fill-part : tie.Need-slice-relend-prefix-fill-part
 slice-relend-prefix-fill-part c = search needs
@@ -86,7 +87,7 @@ returns-3 c =
     rw (le-leb (polyNeed (at .pts .now)) (length (at .scratch .now)) (enough (t .before))) (
       refl,
       (
-        f .fill-part .ensures .0 ∙ rw (box-is t, reach-is (at .pts .now) e),
+        drew-as (f .fill-part .ensures .0) (rw (box-is t, reach-is (at .pts .now) e)),
         ap (λ (l : List Float). l ++ drop (k .plan-of .result .need) (at .scratch .now)) (f .fill-part .ensures .1) ∙ rw (box-is t, need-is (at .pts .now) e, need-known k),
       ),
     )

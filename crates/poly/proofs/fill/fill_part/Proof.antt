@@ -3,6 +3,7 @@ use mathlib.Core.Path.{ap, _∙_}
 use Prim.Native.Nat.{ℕ}
 use lib.ListN.{replicate}
 use Rattle.mathf.specs.F32.{f0}
+use Rattle.draw.proofs.Loops.{drew-as}
 use Rattle.poly.proofs.Needs.{box-room}
 use borrow.Author.Needs.{needs}
 use Rattle.poly.proofs.fill.fill_part.Statement.{statement}
@@ -32,7 +33,7 @@ returns c =
     let d = z .before .before .before .before in
     let a = d .before .before .before .before .before in
     let s = a .before .before .before .before .before in
-    (d .draw-box .ensures ∙ rw (a .accumulate .ensures), z .clear .ensures ∙ ap (λ (n : ℕ). replicate n f0) (a .accumulate .kept .0 ∙ s .pre .1 .1))
+    (drew-as (d .draw-box .ensures) (rw (a .accumulate .ensures)), z .clear .ensures ∙ ap (λ (n : ℕ). replicate n f0) (a .accumulate .kept .0 ∙ s .pre .1 .1))
 
 pub fill-part-spec : {M : Type 1} → statement M
 fill-part-spec =

@@ -3,6 +3,7 @@ use mathlib.Core.Path.{_≡_, ap, _∙_}
 use Rattle.draw.specs.Areas.{drawnIn, clipTo, AreaFits}
 use lib.ListN.{length}
 use Rattle.draw.specs.declared.Area.{Area}
+use Rattle.draw.proofs.Loops.{drew-as, drew-none}
 use Rattle.draw.proofs.Rows.{none-across, none-down}
 use Rattle.bounds.specs.Bounds.{reachOf}
 use Rattle.poly.specs.Poly.{inkIn}
@@ -26,14 +27,14 @@ returns c =
     let k = c .before in
     let at = k .before .before .before .before .args in
     let f = inkIn (at .acc .now) (at .g) (at .paint) in
-    none-across (at .pitch) f (at .px .now) (k .clipped .result) (c .if1 .taken) ∙ ap (λ (b : Area). drawnIn (at .pitch) b f (at .px .now)) (bb-is k)
+    drew-none (none-across (at .pitch) f (at .px .now) (k .clipped .result) (c .if1 .taken) ∙ ap (λ (b : Area). drawnIn (at .pitch) b f (at .px .now)) (bb-is k))
 
 returns-2 : tie.Need-returns-2
 returns-2 c =
     let k = c .before .before in
     let at = k .before .before .before .before .args in
     let f = inkIn (at .acc .now) (at .g) (at .paint) in
-    none-down (at .pitch) f (at .px .now) (k .clipped .result) (c .if2 .taken) ∙ ap (λ (b : Area). drawnIn (at .pitch) b f (at .px .now)) (bb-is k)
+    drew-none (none-down (at .pitch) f (at .px .now) (k .clipped .result) (c .if2 .taken) ∙ ap (λ (b : Area). drawnIn (at .pitch) b f (at .px .now)) (bb-is k))
 
 poly-rows-requires : tie.Need-poly-rows-requires
 poly-rows-requires c κs =
@@ -52,7 +53,7 @@ returns-3 c =
     let d = c .before .before in
     let k = d .before .before .before .before in
     let at = k .before .before .before .before .args in
-    d .poly-rows .ensures ∙ ap (λ (b : Area). drawnIn (at .pitch) b (inkIn (at .acc .now) (at .g) (at .paint)) (at .px .now)) (bb-is k)
+    drew-as (d .poly-rows .ensures) (ap (λ (b : Area). drawnIn (at .pitch) b (inkIn (at .acc .now) (at .g) (at .paint)) (at .px .now)) (bb-is k))
 
 pub draw-box-spec : {M : Type 1} → statement M
 draw-box-spec =

@@ -1,8 +1,9 @@
 -- `poly::rows::flat_row` meets its contract. Assumes nothing.
-use mathlib.Core.Path.{_≡_, _∙_}
+use mathlib.Core.Path.{_≡_, ap, _∙_}
 use Prim.Native.Nat.{_+_, _-_, _*_}
 use native.Mathlib.Omega.{arith}
-use Rattle.draw.proofs.Loops.{InRow, row-start, row-next, row-pass, row-end}
+use Rattle.color.specs.Inks.{inkedOf}
+use Rattle.draw.proofs.Loops.{InRow, row-start, row-next, row-pass, row-end, bit-most}
 use Rattle.poly.specs.Poly.{runSum}
 use Rattle.paints.specs.Paints.{paintAt}
 use Rattle.paints.specs.declared.Paint.the-variants.{Solid}
@@ -13,11 +14,11 @@ use Rattle.poly.proofs.rows.flat_row.Statement.{statement}
 use Rattle.poly.proofs.rows.flat_row.Tie as tie
 
 abbrev Inv-loop : tie.InvT-loop
-Inv-loop px₀ acc pitch x0 x1 y ls skip c row a₀ x₀ px a x =
-    InRow pitch (inkFrom acc ls skip x0 (Solid c)) y x0 x1 px₀ px x × (a ≡ runSum acc ls (skip + (x - x0)))
+Inv-loop px₀ acc pitch x0 x1 y ls skip c row a₀ n₀ x₀ px a n x =
+    InRow pitch (inkFrom acc ls skip x0 (Solid c)) y x0 x1 px₀ px n x × (a ≡ runSum acc ls (skip + (x - x0)))
 
 abbrev μ-loop : tie.MeasureT-loop
-μ-loop px₀ acc pitch x0 x1 y ls skip c row a₀ x₀ px a x = x1 - x
+μ-loop px₀ acc pitch x0 x1 y ls skip c row a₀ n₀ x₀ px a n x = x1 - x
 
 mul-row : tie.Need-mul-row Inv-loop μ-loop
 mul-row c = omega arith
@@ -68,8 +69,8 @@ loop-again c =
     let same = ink-none (at .acc .now) (at .ls) (at .skip) (at .x0) (Solid (at .c)) x (at .y) (getD (s .loop .px) (at .y * at .pitch + x) 0) sum (c .before .cover .ensures) (c .if1 .taken) in
     (row-pass (start .pre .0) (s .loop .inv .0) (turn .loop-test .taken) same, rw n sum)
 
-add-blend-c : tie.Need-add-blend-c Inv-loop μ-loop
-add-blend-c c = omega arith
+add-i : tie.Need-add-i Inv-loop μ-loop
+add-i c = omega arith
 
 mul-blend-c : tie.Need-mul-blend-c Inv-loop μ-loop
 mul-blend-c c = omega arith
@@ -80,14 +81,17 @@ slice-read-blend-c c = omega arith
 blend-c-requires : tie.Need-blend-c-requires Inv-loop μ-loop
 blend-c-requires c κs = omega arith
 
-add-px : tie.Need-add-px Inv-loop μ-loop
-add-px c = omega arith
-
 mul-px : tie.Need-mul-px Inv-loop μ-loop
 mul-px c = omega arith
 
 slice-write-px : tie.Need-slice-write-px Inv-loop μ-loop
 slice-write-px c = omega arith
+
+cast-n : tie.Need-cast-n Inv-loop μ-loop
+cast-n c = omega arith
+
+add-n : tie.Need-add-n Inv-loop μ-loop
+add-n c = omega (arith, bit-most (c .before .blend-c .result .altered))
 
 add-x-2 : tie.Need-add-x-2 Inv-loop μ-loop
 add-x-2 c = omega arith
@@ -98,7 +102,8 @@ loop-less-2 c = omega arith
 loop-again-2 : tie.Need-loop-again-2 Inv-loop μ-loop
 unfolding paintAt
 loop-again-2 c =
-    let cv = c .before .before .before in
+    let q = c .before in
+    let cv = q .before .before .before in
     let turn = cv .before .before in
     let s = turn .before in
     let start = s .before .before .before .before in
@@ -106,8 +111,9 @@ loop-again-2 c =
     let x = s .loop .x in
     let n : at .skip + (x + 1 - at .x0) ≡ at .skip + (x - at .x0) + 1 = omega (arith, s .loop .inv .0 .from) in
     let sum = turn-sum (at .acc .now) (at .ls) (at .skip) (at .x0) x (s .loop .a) (s .loop .inv .1) in
-    let ink = ink-by (at .acc .now) (at .ls) (at .skip) (at .x0) (Solid (at .c)) x (at .y) (getD (s .loop .px) (at .y * at .pitch + x) 0) sum (cv .cover .ensures) in
-    (row-next (start .pre .0) (s .loop .inv .0) (turn .loop-test .taken) (c .blend-c .ensures ∙ ink), rw n sum)
+    let old = getD (s .loop .px) (at .y * at .pitch + x) 0 in
+    let ink = ink-by (at .acc .now) (at .ls) (at .skip) (at .x0) (Solid (at .c)) x (at .y) old sum (cv .cover .ensures) in
+    (row-next (start .pre .0) (s .loop .inv .0) (turn .loop-test .taken) (q .blend-c .ensures ∙ ap (inkedOf old) ink), rw n sum)
 
 same-length : tie.Need-same-length Inv-loop μ-loop
 same-length c = omega arith
@@ -133,13 +139,14 @@ flat-row-spec =
     add-x
     loop-less
     loop-again
-    add-blend-c
+    add-i
     mul-blend-c
     slice-read-blend-c
     blend-c-requires
-    add-px
     mul-px
     slice-write-px
+    cast-n
+    add-n
     add-x-2
     loop-less-2
     loop-again-2

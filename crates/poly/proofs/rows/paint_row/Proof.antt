@@ -1,8 +1,9 @@
 -- `poly::rows::paint_row` meets its contract. Assumes nothing.
-use mathlib.Core.Path.{_≡_, _∙_}
+use mathlib.Core.Path.{_≡_, ap, _∙_}
 use Prim.Native.Nat.{_+_, _-_, _*_}
 use native.Mathlib.Omega.{arith}
-use Rattle.draw.proofs.Loops.{InRow, row-start, row-next, row-pass, row-end}
+use Rattle.color.specs.Inks.{inkedOf}
+use Rattle.draw.proofs.Loops.{InRow, row-start, row-next, row-pass, row-end, bit-most}
 use Rattle.poly.specs.Poly.{runSum}
 use Rattle.poly.specs.Rooms.{inkFrom}
 use Rattle.poly.proofs.Spans.{turn-sum, ink-by, ink-none}
@@ -11,11 +12,11 @@ use Rattle.poly.proofs.rows.paint_row.Statement.{statement}
 use Rattle.poly.proofs.rows.paint_row.Tie as tie
 
 abbrev Inv-loop : tie.InvT-loop
-Inv-loop px₀ acc pitch x0 x1 y ls skip paint row a₀ x₀ px a x =
-    InRow pitch (inkFrom acc ls skip x0 paint) y x0 x1 px₀ px x × (a ≡ runSum acc ls (skip + (x - x0)))
+Inv-loop px₀ acc pitch x0 x1 y ls skip paint row a₀ n₀ x₀ px a n x =
+    InRow pitch (inkFrom acc ls skip x0 paint) y x0 x1 px₀ px n x × (a ≡ runSum acc ls (skip + (x - x0)))
 
 abbrev μ-loop : tie.MeasureT-loop
-μ-loop px₀ acc pitch x0 x1 y ls skip paint row a₀ x₀ px a x = x1 - x
+μ-loop px₀ acc pitch x0 x1 y ls skip paint row a₀ n₀ x₀ px a n x = x1 - x
 
 mul-row : tie.Need-mul-row Inv-loop μ-loop
 mul-row c = omega arith
@@ -66,8 +67,8 @@ loop-again c =
     let same = ink-none (at .acc .now) (at .ls) (at .skip) (at .x0) (at .paint) x (at .y) (getD (s .loop .px) (at .y * at .pitch + x) 0) sum (c .before .cover .ensures) (c .if1 .taken) in
     (row-pass (start .pre .0) (s .loop .inv .0) (turn .loop-test .taken) same, rw n sum)
 
-add-shade : tie.Need-add-shade Inv-loop μ-loop
-add-shade c = omega arith
+add-i : tie.Need-add-i Inv-loop μ-loop
+add-i c = omega arith
 
 mul-shade : tie.Need-mul-shade Inv-loop μ-loop
 mul-shade c = omega arith
@@ -78,14 +79,17 @@ slice-read-shade c = omega arith
 shade-requires : tie.Need-shade-requires Inv-loop μ-loop
 shade-requires c κs = omega arith
 
-add-px : tie.Need-add-px Inv-loop μ-loop
-add-px c = omega arith
-
 mul-px : tie.Need-mul-px Inv-loop μ-loop
 mul-px c = omega arith
 
 slice-write-px : tie.Need-slice-write-px Inv-loop μ-loop
 slice-write-px c = omega arith
+
+cast-n : tie.Need-cast-n Inv-loop μ-loop
+cast-n c = omega arith
+
+add-n : tie.Need-add-n Inv-loop μ-loop
+add-n c = omega (arith, bit-most (c .before .shade .result .altered))
 
 add-x-2 : tie.Need-add-x-2 Inv-loop μ-loop
 add-x-2 c = omega arith
@@ -95,7 +99,8 @@ loop-less-2 c = omega arith
 
 loop-again-2 : tie.Need-loop-again-2 Inv-loop μ-loop
 loop-again-2 c =
-    let cv = c .before .before .before in
+    let q = c .before in
+    let cv = q .before .before .before in
     let turn = cv .before .before in
     let s = turn .before in
     let start = s .before .before .before .before in
@@ -103,8 +108,9 @@ loop-again-2 c =
     let x = s .loop .x in
     let n : at .skip + (x + 1 - at .x0) ≡ at .skip + (x - at .x0) + 1 = omega (arith, s .loop .inv .0 .from) in
     let sum = turn-sum (at .acc .now) (at .ls) (at .skip) (at .x0) x (s .loop .a) (s .loop .inv .1) in
-    let ink = ink-by (at .acc .now) (at .ls) (at .skip) (at .x0) (at .paint) x (at .y) (getD (s .loop .px) (at .y * at .pitch + x) 0) sum (cv .cover .ensures) in
-    (row-next (start .pre .0) (s .loop .inv .0) (turn .loop-test .taken) (c .shade .ensures ∙ ink), rw n sum)
+    let old = getD (s .loop .px) (at .y * at .pitch + x) 0 in
+    let ink = ink-by (at .acc .now) (at .ls) (at .skip) (at .x0) (at .paint) x (at .y) old sum (cv .cover .ensures) in
+    (row-next (start .pre .0) (s .loop .inv .0) (turn .loop-test .taken) (q .shade .ensures ∙ ap (inkedOf old) ink), rw n sum)
 
 same-length : tie.Need-same-length Inv-loop μ-loop
 same-length c = omega arith
@@ -130,13 +136,14 @@ paint-row-spec =
     add-x
     loop-less
     loop-again
-    add-shade
+    add-i
     mul-shade
     slice-read-shade
     shade-requires
-    add-px
     mul-px
     slice-write-px
+    cast-n
+    add-n
     add-x-2
     loop-less-2
     loop-again-2

@@ -3,6 +3,7 @@ use mathlib.Core.Path.{_≡_, _∙_}
 use Prim.Native.Nat.{_+_, _*_, _≤_}
 use native.Mathlib.Omega.{arith}
 use lib.ListN.{length}
+use Rattle.draw.proofs.Loops.{drew-as}
 use Rattle.draw.proofs.Rows.{row-same}
 use Rattle.bounds.proofs.Signs.{back}
 use Rattle.poly.specs.Poly.{offsetOf, inkIn}
@@ -69,9 +70,9 @@ returns c =
     let acc = at .acc .now in
     let ls = offsetOf (at .y) (at .g .oy) * (at .g .bw + 2) in
     let skip = offsetOf (at .x0) (at .g .ox) in
-    d .sum-row .ensures
-    ∙ rw (skip-at p, row-at (p .before))
-    (row-same (at .pitch) (inkFrom acc ls skip (at .x0) (h .in-row .result)) (inkIn acc (at .g) (at .paint)) (at .px .now) (at .x0) (at .x1) (at .y) (λ x q l u. ink-in acc (at .g) (h .in-row .result) (at .paint) (at .x0) (at .y) x q (s .pre .1 .2 .from) l (rw (h .before .centre .ensures) at (h .in-row .ensures))))
+    drew-as (d .sum-row .ensures)
+    (rw (skip-at p, row-at (p .before))
+    (row-same (at .pitch) (inkFrom acc ls skip (at .x0) (h .in-row .result)) (inkIn acc (at .g) (at .paint)) (at .px .now) (at .x0) (at .x1) (at .y) (λ x q l u. ink-in acc (at .g) (h .in-row .result) (at .paint) (at .x0) (at .y) x q (s .pre .1 .2 .from) l (rw (h .before .centre .ensures) at (h .in-row .ensures)))))
 
 pub poly-row-spec : {M : Type 1} → statement M
 poly-row-spec =

@@ -8,11 +8,11 @@ use Rattle.poly.proofs.rows.poly_rows.Statement.{statement}
 use Rattle.poly.proofs.rows.poly_rows.Tie as tie
 
 abbrev Inv-loop : tie.InvT-loop
-Inv-loop px₀ acc pitch g paint x0 x1 y0 y1 y₀ px y =
-    InRows pitch (inkIn acc g paint) x0 x1 y0 y1 px₀ px y
+Inv-loop px₀ acc pitch g paint x0 x1 y0 y1 n₀ y₀ px n y =
+    InRows pitch (inkIn acc g paint) x0 x1 y0 y1 px₀ px n y
 
 abbrev μ-loop : tie.MeasureT-loop
-μ-loop px₀ acc pitch g paint x0 x1 y0 y1 y₀ px y = y1 - y
+μ-loop px₀ acc pitch g paint x0 x1 y0 y1 n₀ y₀ px n y = y1 - y
 
 loop-holds : tie.Need-loop-holds Inv-loop μ-loop
 loop-holds c =
@@ -27,6 +27,9 @@ poly-row-requires c κs =
     let room = start .pre .1 in
     (row-fits (start .pre .0) (s .loop .inv) t, (room .0, room .1, room .2, over-part (s .loop .y) (room .3) (s .loop .inv .from) t))
 
+add-n : tie.Need-add-n Inv-loop μ-loop
+add-n c = omega arith
+
 add-y : tie.Need-add-y Inv-loop μ-loop
 add-y c = omega arith
 
@@ -37,13 +40,13 @@ loop-again : tie.Need-loop-again Inv-loop μ-loop
 loop-again c =
     let called = c .before .before in
     let s = called .before .before .before in
-    rows-next (s .loop .inv) (called .before .before .loop-test .taken) (called .poly-row .ensures)
+    rows-next (s .before .before .before .pre .0 .wide) (s .loop .inv) (called .before .before .loop-test .taken) (called .poly-row .ensures)
 
 same-length : tie.Need-same-length Inv-loop μ-loop
 same-length c = omega arith
 
 returns : tie.Need-returns Inv-loop μ-loop
-returns c = rows-end (c .before .loop .inv) (c .loop-test .left)
+returns c = rows-end (c .before .before .before .before .pre .0 .high) (c .before .loop .inv) (c .loop-test .left)
 
 pub poly-rows-spec : {M : Type 1} → statement M
 poly-rows-spec =
@@ -53,6 +56,7 @@ poly-rows-spec =
     μ-loop
     loop-holds
     poly-row-requires
+    add-n
     add-y
     loop-less
     loop-again

@@ -1,23 +1,26 @@
--- `patch::ground_box` meets its contract. The rows before y are set. Assumes nothing.
+-- `fill::store_box` meets its contract. The rows before y are drawn. Assumes nothing.
 use Prim.Native.Nat.{_-_}
 use native.Mathlib.Omega.{arith}
 use Rattle.draw.proofs.Loops.{InRows, rows-start, rows-next, rows-end, row-fits}
-use Rattle.patch.proofs.ground_box.Statement.{statement}
-use Rattle.patch.proofs.ground_box.Tie as tie
+use Rattle.fill.proofs.store_box.Statement.{statement}
+use Rattle.fill.proofs.store_box.Tie as tie
 
 abbrev Inv-loop : tie.InvT-loop
-Inv-loop px₀ w v x0 x1 y₀ y-end px y = InRows w (λ _ _ _. v) x0 x1 y₀ y-end px₀ px y
+Inv-loop px₀ w v x0 x1 n₀ y₀ y-end px n y = InRows w (λ _ _ _. v) x0 x1 y₀ y-end px₀ px n y
 
 abbrev μ-loop : tie.MeasureT-loop
-μ-loop px₀ w v x0 x1 y₀ y-end px y = y-end - y
+μ-loop px₀ w v x0 x1 n₀ y₀ y-end px n y = y-end - y
 
 loop-holds : tie.Need-loop-holds Inv-loop μ-loop
 loop-holds c = rows-start _ (λ _ _ _. c .before .args .v) _ _ _ _ _ (c .before .pre .down)
 
-ground-row-requires : tie.Need-ground-row-requires Inv-loop μ-loop
-ground-row-requires c κs =
+store-span-requires : tie.Need-store-span-requires Inv-loop μ-loop
+store-span-requires c κs =
     let l = c .before .before in
     row-fits (l .before .before .pre) (l .loop .inv) (c .before .loop-test .taken)
+
+add-n : tie.Need-add-n Inv-loop μ-loop
+add-n c = omega arith
 
 add-y : tie.Need-add-y Inv-loop μ-loop
 add-y c = omega arith
@@ -29,22 +32,23 @@ loop-again : tie.Need-loop-again Inv-loop μ-loop
 loop-again c =
     let row = c .before .before in
     let turn = row .before .before in
-    rows-next (turn .before .loop .inv) (turn .loop-test .taken) (row .ground-row .ensures)
+    rows-next (turn .before .before .before .pre .wide) (turn .before .loop .inv) (turn .loop-test .taken) (row .store-span .ensures)
 
 same-length : tie.Need-same-length Inv-loop μ-loop
 same-length c = omega arith
 
 returns : tie.Need-returns Inv-loop μ-loop
-returns c = rows-end (c .before .loop .inv) (c .loop-test .left)
+returns c = rows-end (c .before .before .before .pre .high) (c .before .loop .inv) (c .loop-test .left)
 
-pub ground-box-spec : {M : Type 1} → statement M
-ground-box-spec =
+pub store-box-spec : {M : Type 1} → statement M
+store-box-spec =
     tie.close
     (tie.spec
     Inv-loop
     μ-loop
     loop-holds
-    ground-row-requires
+    store-span-requires
+    add-n
     add-y
     loop-less
     loop-again
