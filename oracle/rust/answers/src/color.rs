@@ -14,16 +14,24 @@ fn word(c: Color) -> u64 {
     u32::from_le_bytes([c.r, c.g, c.b, c.a]) as u64
 }
 
-/// The pixel, or 11 in the high word where document 01 refuses an ink over 255, which the Rust does not.
+/// What the high word has beside a refusal's number where the pixel's value differs from the old one.
+pub const ALTERED: u64 = 256;
+
+fn altered(dst: u32, pixel: u32) -> u64 {
+    let high = if pixel == dst { 0 } else { ALTERED };
+    pixel as u64 | high << 32
+}
+
+/// The pixel and whether it differs, or 11 in the high word where document 01 refuses an ink over 255, which the Rust does not.
 fn blend(dst: u32, r: u32, g: u32, b: u32, a: u32) -> u64 {
-    if r > 255 || g > 255 || b > 255 { 11 << 32 } else { color::blend(dst, r, g, b, a) as u64 }
+    if r > 255 || g > 255 || b > 255 { 11 << 32 } else { altered(dst, color::blend(dst, r, g, b, a)) }
 }
 
 pub fn answer(f: u32, [a, b, c, d, e]: [u32; 5]) -> u64 {
     let float = f32::from_bits;
     match f {
         1 => blend(a, b, c, d, e),
-        2 => color::blend_c(a, color_of(b), c) as u64,
+        2 => altered(a, color::blend_c(a, color_of(b), c)),
         3 => word(color_of(a).mix(color_of(b), float(c))),
         4 => word(color_of(a).fade(float(b))),
         5 => word(color_of(a).alpha(float(b))),

@@ -8,6 +8,7 @@ pub mod mathf;
 pub mod paint;
 pub mod random;
 pub mod shape;
+pub mod steps;
 
 /// A float as it is stored: its bits, every NaN as one pattern, since only the bits of a NaN are free.
 pub fn pattern(x: f32) -> u32 {

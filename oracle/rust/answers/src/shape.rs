@@ -1,5 +1,8 @@
 //! The drawing methods of gfx.rs: a call with its numbers, as words and as the Rust draws it, and sequences of calls on one canvas.
-use crate::random::Random;
+use crate::{
+    random::Random,
+    steps::{Altered, Watch},
+};
 use kash::{
     color::Color,
     geom::{IRect, Pt, Rect},
@@ -84,6 +87,15 @@ impl Call {
             8 => canvas.fill_poly(&self.points(), self.filling()),
             9 => canvas.shadow_rrect(self.rect(), r, width, c, self.kind == 1),
             f => panic!("no shape {f}"),
+        }
+    }
+
+    /// Draws it, and answers what its steps altered.
+    pub fn counted(&self, canvas: &mut Canvas) -> Altered {
+        let mut watch = Watch::new(canvas, canvas.bounds());
+        match self.f {
+            POLYLINE => watch.chain(canvas, &self.points(), self.width, self.ink()),
+            _ => watch.shape(canvas, |canvas| self.draw(canvas)),
         }
     }
 

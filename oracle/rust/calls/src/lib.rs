@@ -5,7 +5,7 @@ pub mod rooms;
 
 use answers::random::Random;
 use lent::{bytes, Lent};
-use sheets::{orders::Written, Answer, Expected, Room};
+use sheets::{orders::Written, After, Answer, Room};
 
 /// The functions as they are exported.
 pub mod raw {
@@ -111,20 +111,36 @@ pub fn enough(need: usize, random: &mut Random) -> usize {
     need + random.of(&[0, 0, 1, 2, 17])
 }
 
-/// What differs between a call and what it must do; nothing where all is as it must be.
-pub fn fault(left: &Left, expected: &Expected, px: &[u32], scratch: &[u32]) -> Option<&'static str> {
-    let swept = expected.swept;
-    let words = left.scratch.iter().zip(scratch).enumerate().all(|(i, (now, was))| *now == if i < swept { 0 } else { *was });
-    if left.answer != expected.answer {
-        Some("answer")
-    } else if left.px != px {
-        Some("pixels")
-    } else if !words {
-        Some("scratch")
-    } else if !left.inside {
-        Some("memory that was not lent for writing")
-    } else {
-        None
+/// The counts that a run has compared, summed over its calls.
+#[derive(Default)]
+pub struct Compared {
+    steps: u64,
+    grounded: u64,
+}
+
+impl Compared {
+    /// What differs between a call and what it must do; nothing where all is as it must be.
+    pub fn fault(&mut self, left: &Left, after: &After, scratch: &[u32]) -> Option<&'static str> {
+        self.steps += after.answer.steps;
+        self.grounded += after.answer.grounded;
+        let words = left.scratch.iter().zip(scratch).enumerate().all(|(i, (now, was))| *now == if i < after.swept { 0 } else { *was });
+        if left.answer.uncounted() != after.answer.uncounted() {
+            Some("answer")
+        } else if left.answer != after.answer {
+            Some("counts")
+        } else if left.px != after.px {
+            Some("pixels")
+        } else if !words {
+            Some("scratch")
+        } else if !left.inside {
+            Some("memory that was not lent for writing")
+        } else {
+            None
+        }
+    }
+
+    pub fn told(&self) -> String {
+        format!("{} steps and {} grounded pixels", self.steps, self.grounded)
     }
 }
 

@@ -1,7 +1,7 @@
 //! The cases of color: document 01's examples, every alpha, every coverage by steps, ends of every fraction.
 use crate::Stored;
 use answers::{
-    color::{answer, NAMES},
+    color::{answer, ALTERED, NAMES},
     random::{Random, SEED},
 };
 
@@ -12,16 +12,17 @@ const FRACTIONS: std::ops::Range<u32> = 4..8;
 const HSV: u32 = 10;
 const MIX_PIX: u32 = 13;
 
-/// Document 01's starred pixels: function, inputs, pixel.
-const STARRED: [(u32, [u32; 5], u64); 8] = [
-    (BLEND, [0, 127, 127, 127, 1], 0),
-    (BLEND, [0, 128, 128, 128, 1], 0x0001_0101),
-    (BLEND, [0, 255, 0, 0, 128], 0x0080_0000),
-    (BLEND, [0xff12_3456, 9, 9, 9, 0], 0xff12_3456),
-    (BLEND, [0xff00_0000, 0, 0, 0, 1], 0),
-    (BLEND, [0, 256, 0, 0, 0], 11 << 32),
-    (BLEND_C, [0, 0x80ff_ffff, 128, 0, 0], 0x0040_4040),
-    (MIX, [0xffff_ffff, 0xffff_ffff, 0x7fc0_0000, 0, 0], 0),
+/// Document 01's starred pixels: function, inputs, pixel; and what stands in the high word, by request 2026-05 whether the pixel is another
+/// than the first input.
+const STARRED: [(u32, [u32; 5], u64, u64); 8] = [
+    (BLEND, [0, 127, 127, 127, 1], 0, 0),
+    (BLEND, [0, 128, 128, 128, 1], 0x0001_0101, ALTERED),
+    (BLEND, [0, 255, 0, 0, 128], 0x0080_0000, ALTERED),
+    (BLEND, [0xff12_3456, 9, 9, 9, 0], 0xff12_3456, 0),
+    (BLEND, [0xff00_0000, 0, 0, 0, 1], 0, ALTERED),
+    (BLEND, [0, 256, 0, 0, 0], 0, 11),
+    (BLEND_C, [0, 0x80ff_ffff, 128, 0, 0], 0x0040_4040, ALTERED),
+    (MIX, [0xffff_ffff, 0xffff_ffff, 0x7fc0_0000, 0, 0], 0, 0),
 ];
 
 /// Fractions at the ends, just past them, and none.
@@ -110,8 +111,8 @@ fn hues(cases: &mut Cases, random: &mut Random) {
 pub fn stored() -> Stored {
     let mut random = Random(SEED + 1);
     let mut cases = Cases(vec![]);
-    for (f, inputs, want) in STARRED {
-        assert_eq!(answer(f, inputs), want, "{} of {inputs:x?}", NAMES[f as usize - 1]);
+    for (f, inputs, pixel, high) in STARRED {
+        assert_eq!(answer(f, inputs), pixel | high << 32, "{} of {inputs:x?}", NAMES[f as usize - 1]);
         cases.add(f, inputs);
     }
     blends(&mut cases, &mut random);

@@ -7,8 +7,10 @@ use answers::{
 };
 use kash::{geom::IRect, gfx::Canvas};
 
-/// Words of a case, and the most that it has of coordinates, pixels and scratch.
-const WIDTH: usize = 98;
+/// Words of a case, those of its call, the place of its number, and the most that it has of coordinates, pixels and scratch.
+const WIDTH: usize = 99;
+const CALL: usize = 29;
+const NUMBER: usize = 97;
 const COORDS: usize = 12;
 const PIXELS: usize = 64;
 const SCRATCH: usize = 4096;
@@ -37,14 +39,14 @@ fn steps(n: usize, base: u32, step: u32) -> Vec<u32> {
     (0..n as u32).map(|i| base.wrapping_add(i.wrapping_mul(step))).collect()
 }
 
-/// The case of a call's words, and of what it leaves: words of scratch that are +0, pixels, number.
-fn case(words: Vec<u32>, base: u32, step: u32, swept: usize, px: &[u32], number: u32) -> Vec<u32> {
+/// The case of a call's words, and of what it leaves and returns: words of scratch that are +0, pixels, number and steps.
+fn case(words: Vec<u32>, base: u32, step: u32, swept: usize, px: &[u32], [number, steps]: [u32; 2]) -> Vec<u32> {
     let mut case = words;
-    case.resize(WIDTH - PIXELS - 5, 0);
+    case.resize(CALL, 0);
     case.extend([px.len() as u32, base, step, swept as u32]);
     case.extend(px);
-    case.resize(WIDTH - 1, 0);
-    case.push(number);
+    case.resize(NUMBER, 0);
+    case.extend([number, steps]);
     case
 }
 
@@ -58,8 +60,8 @@ fn accepted(f: u32, random: &mut Random) -> Vec<u32> {
         }
     };
     let words = call.words(&canvas);
-    call.draw(&mut canvas);
-    case(words, base, step, call.need(), &canvas.px, 0)
+    let steps = call.counted(&mut canvas).steps;
+    case(words, base, step, call.need(), &canvas.px, [0, steps as u32])
 }
 
 /// A polygon that needs more scratch than a case lends, and paints.
@@ -91,8 +93,8 @@ fn refused(f: u32, random: &mut Random, many: bool) -> Vec<u32> {
             continue;
         }
         let mut words = made.words_on(given.sides, given.clip);
-        words.truncate(WIDTH - PIXELS - 5);
-        return case(words, base, step, 0, &steps(given.px, base, step), number);
+        words.truncate(CALL);
+        return case(words, base, step, 0, &steps(given.px, base, step), [number, 0]);
     }
 }
 
@@ -114,7 +116,7 @@ pub fn stored() -> Stored {
         let by_points = f == POLYLINE || f == FILL_POLY;
         cases.extend((0..REFUSED).map(|i| refused(f, &mut random, by_points && i == 0)));
         for number in numbers(f) {
-            assert!(cases[from..].iter().any(|case| case[WIDTH - 1] == number), "shape {f} has no case of {number}");
+            assert!(cases[from..].iter().any(|case| case[NUMBER] == number), "shape {f} has no case of {number}");
         }
     }
     Stored { functions: 1..=NAMES.len() as u32, width: WIDTH, cases }

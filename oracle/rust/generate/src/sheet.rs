@@ -2,14 +2,15 @@
 use crate::Stored;
 use answers::random::{Random, SEED};
 use sheets::{
+    called,
     chains::unseen,
     change::{self, APART, DAMAGED_NEW, DAMAGED_OLD, ONE_SHAPE, PX, SCRATCH},
     damage::damaged,
-    fixed, make, paint, patch, Chains, Expected, Made, Sheet,
+    fixed, make, After, Chains, Expected, Made, Sheet,
 };
 
 /// Words of a case, and the most that it has of pixels, scratch, and words of its sheets.
-const WIDTH: usize = 249;
+const WIDTH: usize = 251;
 const PIXELS: usize = 64;
 const SCRATCH_WORDS: usize = 4096;
 const SHEETS: usize = 171;
@@ -45,10 +46,7 @@ impl Given {
     }
 
     fn expected(&self) -> Expected {
-        match self.f {
-            PAINT => paint(&self.new, self.px, self.scratch),
-            _ => patch(&self.old, &self.new, self.px, self.scratch),
-        }
+        called((self.f != PAINT).then_some(&self.old), &self.new, self.px, self.scratch)
     }
 
     fn case(&self, random: &mut Random) -> Vec<u32> {
@@ -58,12 +56,13 @@ impl Given {
         let before = if self.f == AFTER { Sheet::read(&self.old).expect("a sound old sheet").fresh() } else { steps };
         assert_eq!(before.len(), self.px);
         let expected = self.expected();
-        let (fresh, a) = (expected.fresh(), expected.answer);
-        let after = expected.pixels(&before, fresh.as_deref());
-        assert!(self.f != AFTER || fresh.is_none_or(|fresh| fresh == after));
+        let counted = expected.counted();
+        let After { answer: a, px, swept } = expected.after(&before, counted.as_ref());
+        assert!(self.f != AFTER || counted.is_none_or(|fresh| fresh.px == px));
         let mut case = vec![self.f, self.old.len() as u32, self.new.len() as u32, self.px as u32, base, step, self.scratch as u32];
-        case.extend([a.number, a.item, a.x0 as u32, a.y0 as u32, a.x1 as u32, a.y1 as u32, expected.swept as u32]);
-        case.extend(after);
+        case.extend([a.number, a.item, a.x0 as u32, a.y0 as u32, a.x1 as u32, a.y1 as u32]);
+        case.extend([a.steps, a.grounded, swept as u64].map(|n| u32::try_from(n).expect("a small number")));
+        case.extend(px);
         case.resize(WIDTH - SHEETS, 0);
         case.extend(words(&self.old));
         case.extend(words(&self.new));
@@ -140,14 +139,15 @@ fn all_chains(cases: &[Given]) {
     let mut chains = Chains::default();
     for given in cases {
         let expected = given.expected();
-        match (&expected.sheet, Sheet::read(&given.old)) {
-            (Some(sheet), Ok(old)) => {
-                chains.painted(sheet);
-                chains.patched(&old, sheet);
+        match (&expected.sheet, expected.counted()) {
+            (Some(sheet), Some(counted)) => {
+                chains.painted(sheet, &counted);
+                if let Ok(old) = Sheet::read(&given.old) {
+                    chains.patched(&old, sheet);
+                }
             }
-            (Some(sheet), Err(_)) => chains.painted(sheet),
-            (None, _) if given.f == PAINT => chains.refused(&given.new, &expected.answer),
-            (None, _) => (),
+            _ if given.f == PAINT => chains.refused(&given.new, &expected),
+            _ => (),
         }
     }
     let counts = if cases[0].f == PAINT { chains.paintings() } else { chains.patches() };

@@ -1,5 +1,15 @@
 //! The exported functions of the crate `leaves`. A slice passes as a pointer and a length.
+
+/// What drawing a shape returns: its number, or 99 where the state is not left as it was, and the steps that altered a pixel's value.
+#[repr(C)]
+#[derive(Clone, Copy, Debug, PartialEq)]
+pub struct Drawn {
+    pub number: u32,
+    pub steps: u64,
+}
+
 mod raw {
+    use super::Drawn;
     extern "C" {
         pub fn leaves_sqrt(xs: *mut f32, n: usize);
         pub fn leaves_floor(xs: *mut f32, n: usize);
@@ -9,7 +19,7 @@ mod raw {
         pub fn leaves_to_usize(xs: *const f32, n: usize, out: *mut usize, m: usize);
         pub fn leaves_to_i32(xs: *const f32, n: usize, out: *mut i32, m: usize);
         pub fn leaves_blend(px: *mut u32, n: usize, r: u8, g: u8, b: u8, a: u8);
-        pub fn leaves_shape(bytes: *const u8, n: usize, px: *mut u32, m: usize, scratch: *mut f32, k: usize) -> u32;
+        pub fn leaves_shape(bytes: *const u8, n: usize, px: *mut u32, m: usize, scratch: *mut f32, k: usize) -> Drawn;
         pub fn leaves_differing(bytes: *const u8, n: usize, area: u32) -> u32;
     }
 }
@@ -54,7 +64,7 @@ pub fn bytes(words: &[u32]) -> Vec<u8> {
     words.iter().flat_map(|w| w.to_le_bytes()).collect()
 }
 
-/// Draws a shape, and answers its number, or 99 where the state is not left as it was.
-pub fn shape(bytes: &[u8], px: &mut [u32], scratch: &mut [f32]) -> u32 {
+/// Draws a shape.
+pub fn shape(bytes: &[u8], px: &mut [u32], scratch: &mut [f32]) -> Drawn {
     unsafe { raw::leaves_shape(bytes.as_ptr(), bytes.len(), px.as_mut_ptr(), px.len(), scratch.as_mut_ptr(), scratch.len()) }
 }

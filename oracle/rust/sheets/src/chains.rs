@@ -1,5 +1,5 @@
 //! What a run has seen of chains: among the shapes that were painted, among the items that were refused, and in the pairs of a patch.
-use crate::{float, half, item::CHAIN_WIDTH, Answer, Item, Sheet, MOST_POINTS};
+use crate::{float, half, item::CHAIN_WIDTH, Counted, Expected, Item, Sheet, MOST_POINTS};
 use kash::geom::Pt;
 
 /// What was counted, and how often it came.
@@ -13,6 +13,8 @@ pub struct Chains {
     points: [u64; 5],
     negative: u64,
     back: u64,
+    /// Whose steps altered more often than there are pixels that they altered.
+    twice: u64,
     /// By 4, 13, 5, by 6 for the width, by 6 for a point.
     refused: [u64; 5],
     /// Patches in which a chain became another chain, a shorter or longer one, another shape, and another shape a chain.
@@ -25,8 +27,9 @@ fn turns_back(points: &[Pt]) -> bool {
 }
 
 impl Chains {
-    /// The shapes of a sheet that was painted.
-    pub fn painted(&mut self, sheet: &Sheet) {
+    /// The shapes of a sheet that was painted, and how it was counted.
+    pub fn painted(&mut self, sheet: &Sheet, counted: &Counted) {
+        self.twice += counted.twice;
         for (item, _) in sheet.items.iter().filter(|(item, _)| item.is_shape()) {
             self.shapes += 1;
             if let Item::Chain { width, ink, points } = item {
@@ -39,16 +42,16 @@ impl Chains {
     }
 
     /// The item for which a sheet was refused, where it is a chain.
-    pub fn refused(&mut self, sheet: &[u8], answer: &Answer) {
-        if answer.item == 0 {
+    pub fn refused(&mut self, sheet: &[u8], expected: &Expected) {
+        if expected.item == 0 {
             return;
         }
-        let pair = 8 + 4 * answer.item as usize;
+        let pair = 8 + 4 * expected.item as usize;
         let (at, length) = (half(sheet, pair), half(sheet, pair + 2));
         if length == 0 || sheet[at] != 8 {
             return;
         }
-        self.refused[match answer.number {
+        self.refused[match expected.number {
             4 => 0,
             13 => 1,
             5 => 2,
@@ -76,14 +79,18 @@ impl Chains {
     pub fn paintings(&self) -> Vec<Count> {
         let points = ["of 0 points", "of 1 point", "of 2 points", "of 3 to 63 points", "of 64 points"];
         let refused = ["refused by 4", "refused by 13", "refused by 5", "refused by 6, width", "refused by 6, point"];
-        let others = [("of negative width", self.negative), ("turning back at alpha 128", self.back)];
+        let others = [("of negative width", self.negative), ("turning back at alpha 128", self.back), self.counted_twice()];
         points.into_iter().zip(self.points).chain(others).chain(refused.into_iter().zip(self.refused)).collect()
     }
 
     /// What accepted patches must have shown.
     pub fn patches(&self) -> Vec<Count> {
         let pairs = ["chain to chain", "chain to a longer or shorter one", "chain to another shape", "another shape to chain"];
-        pairs.into_iter().zip(self.pairs).collect()
+        pairs.into_iter().zip(self.pairs).chain([self.counted_twice()]).collect()
+    }
+
+    fn counted_twice(&self) -> Count {
+        ("with a pixel counted twice", self.twice)
     }
 
     /// How many of the painted shapes were chains.

@@ -1,8 +1,8 @@
 //! The sheets and patches that document 01 gives as examples, the largest of their kinds, and the edges of requests 2026-01 and 2026-04.
 use crate::{
-    fixed_chains,
+    fixed_chains, fixed_counts,
     make::{bytes, pop},
-    Expected, Made, LONGEST,
+    Made, LONGEST,
 };
 
 /// A painting: sheet, px and scratch words lent, and the number and item that document 01 gives.
@@ -155,26 +155,22 @@ pub fn patches() -> Vec<Patch> {
 /// Holds the reading to document 01's examples before anything is compared with it.
 pub fn check() {
     for p in paintings() {
-        let a = crate::paint(&p.sheet, p.px, p.scratch).answer;
-        assert_eq!((a.number, a.item), (p.number, p.item), "{}", p.name);
+        let e = crate::paint(&p.sheet, p.px, p.scratch);
+        assert_eq!((e.number, e.item), (p.number, p.item), "{}", p.name);
     }
     for (i, p) in patches().iter().enumerate() {
-        let a = crate::patch(&p.old, &p.new, p.px, p.scratch).answer;
-        assert_eq!((a.number, a.item, [a.x0, a.y0, a.x1, a.y1]), (p.number, p.item, p.area), "patch {i}");
+        let e = crate::patch(&p.old, &p.new, p.px, p.scratch);
+        assert_eq!((e.number, e.item, [e.area.x0, e.area.y0, e.area.x1, e.area.y1]), (p.number, p.item, p.area), "patch {i}");
     }
     assert_eq!(painted(&paintings()[0]), [0x00ff_0000, 0, 0, 0]);
     assert_eq!(painted(&paintings()[1]), [0x0080_8080; 2]);
-    let patched = left(crate::patch(&red(0.0), &red(2.0), 4, 0), &[0x00ff_0000, 0, 0, 0]);
-    assert_eq!(patched, [0, 0, 0x00ff_0000, 0]);
+    let patched = crate::patch(&red(0.0), &red(2.0), 4, 0).on(&[0x00ff_0000, 0, 0, 0]);
+    assert_eq!(patched.px, [0, 0, 0x00ff_0000, 0]);
     fixed_chains::check();
-}
-
-/// The pixels that a call leaves.
-fn left(expected: Expected, before: &[u32]) -> Vec<u32> {
-    expected.pixels(before, expected.fresh().as_deref())
+    fixed_counts::check();
 }
 
 /// The pixels that a painting leaves, all bits set before it.
 pub fn painted(p: &Painting) -> Vec<u32> {
-    left(crate::paint(&p.sheet, p.px, p.scratch), &vec![0xffff_ffff; p.px])
+    crate::paint(&p.sheet, p.px, p.scratch).on(&vec![0xffff_ffff; p.px]).px
 }

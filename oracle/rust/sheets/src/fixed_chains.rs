@@ -10,8 +10,8 @@ pub fn chain(points: &[f32], width: f32, rgba: [u8; 4]) -> Vec<u8> {
 }
 
 /// Red at alpha 128 on black: over once, and over twice, (255 × 128 + 128 × 127 + 127) / 255 cut down.
-const HALF: [u8; 4] = [255, 0, 0, 128];
-const ONCE: u32 = 0x0080_0000;
+pub const HALF: [u8; 4] = [255, 0, 0, 128];
+pub const ONCE: u32 = 0x0080_0000;
 const TWICE: u32 = 0x00c0_0000;
 
 /// Points at the centres of 8 × 8 pixels, row after row, each row the other way than the one before; the 65th lies beneath them.

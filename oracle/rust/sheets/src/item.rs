@@ -1,5 +1,6 @@
 //! An item of a sheet: its bytes' number by document 01 (4, 13, 5, 6), the item that they are, its reach, its scratch and its drawing.
 use crate::{float, half, MOST_POINTS};
+use answers::steps::{Altered, Watch};
 use kash::{
     color::Color,
     geom::{IRect, Pt, Rect},
@@ -165,6 +166,14 @@ impl Item {
             Item::Polygon { paint, points } => canvas.fill_poly(points, *paint),
             Item::Shadow { rect, r, blur, ink, skip } => canvas.shadow_rrect(*rect, *r, *blur, *ink, *skip),
             Item::Chain { width, ink, points } => canvas.polyline(points, *width, *ink),
+        }
+    }
+
+    /// Draws it, and answers what its steps altered in the box that is watched.
+    pub fn counted(&self, canvas: &mut Canvas, watch: &mut Watch) -> Altered {
+        match self {
+            Item::Chain { width, ink, points } => watch.chain(canvas, points, *width, *ink),
+            _ => watch.shape(canvas, |canvas| self.draw(canvas)),
         }
     }
 

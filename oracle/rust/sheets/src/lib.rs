@@ -5,6 +5,7 @@ pub mod change;
 pub mod damage;
 pub mod fixed;
 pub mod fixed_chains;
+pub mod fixed_counts;
 pub mod fixed_rooms;
 pub mod item;
 pub mod make;
@@ -16,8 +17,8 @@ pub mod text;
 pub use chains::Chains;
 pub use item::Item;
 pub use make::Made;
-pub use model::{measure, paint, patch, Answer, Expected, Room};
-pub use sheet::{Fault, Sheet};
+pub use model::{called, measure, paint, patch, After, Answer, Expected, Room};
+pub use sheet::{Counted, Fault, Sheet};
 
 /// Document 01: the ends of a sheet's length, its most items, sides, saved clips and points.
 pub const SHORTEST: usize = 12;

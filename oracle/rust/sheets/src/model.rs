@@ -1,12 +1,13 @@
-//! What painting, patching and measuring answer, and what the first two leave of scratch and pixels, by document 01 and requests 2026-01
-//! and 2026-03.
+//! What painting, patching and measuring answer, and what the first two leave of scratch and pixels, by document 01 and requests 2026-01,
+//! 2026-03 and 2026-05.
 use crate::{
     item::{around, EMPTY},
-    Fault, Sheet, MOST_CHANGES,
+    Counted, Fault, Sheet, MOST_CHANGES,
 };
 use kash::geom::IRect;
 
-/// What a sheet call returns, as the library returns it.
+/// What a sheet call returns, as the library returns it: number, item and box; the steps of shapes that altered a pixel's value, and the
+/// pixels whose value the filling with the ground altered.
 #[repr(C)]
 #[derive(Clone, Copy, Debug, PartialEq)]
 pub struct Answer {
@@ -16,45 +17,64 @@ pub struct Answer {
     pub y0: i32,
     pub x1: i32,
     pub y1: i32,
+    pub steps: u64,
+    pub grounded: u64,
 }
 
 impl Answer {
-    fn refused(fault: Fault) -> Answer {
-        Answer { number: fault.number, item: fault.item, ..Answer::accepted(EMPTY) }
-    }
-
-    fn accepted(area: IRect) -> Answer {
-        Answer { number: 0, item: 0, x0: area.x0, y0: area.y0, x1: area.x1, y1: area.y1 }
+    /// The same without its counts.
+    pub fn uncounted(self) -> Answer {
+        Answer { steps: 0, grounded: 0, ..self }
     }
 }
 
-/// What a call must return, how many of the first scratch words it leaves +0, and the sheet that it painted if it was accepted.
+/// What a call must do, whatever the pixels before it are: its number, item and box, how many of the first scratch words it leaves +0, and
+/// the sheet that it paints if it is accepted.
 pub struct Expected {
-    pub answer: Answer,
+    pub number: u32,
+    pub item: u32,
+    pub area: IRect,
     pub swept: usize,
     pub sheet: Option<Sheet>,
 }
 
+/// What a call must return and leave: pixels, and how many of the first scratch words are +0.
+pub struct After {
+    pub answer: Answer,
+    pub px: Vec<u32>,
+    pub swept: usize,
+}
+
 impl Expected {
-    fn refused(fault: Fault) -> Expected {
-        Expected { answer: Answer::refused(fault), swept: 0, sheet: None }
+    fn refused(Fault { number, item }: Fault) -> Expected {
+        Expected { number, item, area: EMPTY, swept: 0, sheet: None }
     }
 
-    /// The pixels of a fresh painting, where the call is accepted.
-    pub fn fresh(&self) -> Option<Vec<u32>> {
-        self.sheet.as_ref().map(Sheet::fresh)
+    /// A fresh painting counted inside the box, where the call is accepted.
+    pub fn counted(&self) -> Option<Counted> {
+        self.sheet.as_ref().map(|sheet| sheet.counted(self.area))
     }
 
-    /// The pixels left by the call: within the box those of a fresh painting, the others as they came.
-    pub fn pixels(&self, before: &[u32], fresh: Option<&[u32]>) -> Vec<u32> {
-        let mut px = before.to_vec();
-        if let (Some(sheet), Some(fresh)) = (&self.sheet, fresh) {
-            let [x0, y0, x1, y1] = [self.answer.x0, self.answer.y0, self.answer.x1, self.answer.y1].map(|z| z as usize);
-            for row in (y0..y1).map(|y| y * sheet.w) {
-                px[row + x0..row + x1].copy_from_slice(&fresh[row + x0..row + x1]);
+    /// What the call returns and leaves on pixels, where its fresh painting is known: within the box the pixels of that, the others as they
+    /// came. The ground alters a pixel of the box where its value was another than the ground's.
+    pub fn after(&self, before: &[u32], counted: Option<&Counted>) -> After {
+        let (IRect { x0, y0, x1, y1 }, mut px) = (self.area, before.to_vec());
+        let mut answer = Answer { number: self.number, item: self.item, x0, y0, x1, y1, steps: 0, grounded: 0 };
+        if let (Some(sheet), Some(fresh)) = (&self.sheet, counted) {
+            answer.steps = fresh.steps;
+            let ground = sheet.ground().pix();
+            for row in (y0 as usize..y1 as usize).map(|y| y * sheet.w) {
+                let places = row + x0 as usize..row + x1 as usize;
+                answer.grounded += px[places.clone()].iter().filter(|p| **p != ground).count() as u64;
+                px[places.clone()].copy_from_slice(&fresh.px[places]);
             }
         }
-        px
+        After { answer, px, swept: self.swept }
+    }
+
+    /// The same, where the fresh painting serves for this alone.
+    pub fn on(&self, before: &[u32]) -> After {
+        self.after(before, self.counted().as_ref())
     }
 }
 
@@ -67,7 +87,7 @@ fn lent(sheet: Sheet, area: IRect, px: usize, scratch: usize) -> Expected {
     if scratch < need {
         return Expected::refused(Fault { number: 9, item: 0 });
     }
-    Expected { answer: Answer::accepted(area), swept: need, sheet: Some(sheet) }
+    Expected { number: 0, item: 0, area, swept: need, sheet: Some(sheet) }
 }
 
 /// Painting a sheet with so many words of px and scratch.
@@ -75,7 +95,7 @@ pub fn paint(bytes: &[u8], px: usize, scratch: usize) -> Expected {
     match Sheet::read(bytes) {
         Err(fault) => Expected::refused(fault),
         Ok(sheet) => {
-            let canvas = IRect::new(0, 0, sheet.w as i32, sheet.h as i32);
+            let canvas = sheet.canvas();
             lent(sheet, canvas, px, scratch)
         }
     }
@@ -108,7 +128,6 @@ fn differing(old: &Sheet, new: &Sheet) -> Result<IRect, u32> {
     if (old.w, old.h, old.ground, old.items.len()) != (new.w, new.h, new.ground, new.items.len()) {
         return Err(10);
     }
-    let canvas = IRect::new(0, 0, new.w as i32, new.h as i32);
     let differ: Vec<_> = old.items.iter().zip(&new.items).filter(|(a, b)| a.1 != b.1).collect();
     if differ.iter().any(|(a, b)| !a.0.is_shape() || !b.0.is_shape()) {
         return Err(10);
@@ -117,7 +136,7 @@ fn differing(old: &Sheet, new: &Sheet) -> Result<IRect, u32> {
         return Err(14);
     }
     let reaches = differ.iter().flat_map(|(a, b)| [a.0.reach(), b.0.reach()]);
-    Ok(reaches.fold(EMPTY, |area, reach| around(area, reach.intersect(&canvas))))
+    Ok(reaches.fold(EMPTY, |area, reach| around(area, reach.intersect(&new.canvas()))))
 }
 
 /// Patching from an old sheet to a new one.
@@ -129,5 +148,13 @@ pub fn patch(old: &[u8], new: &[u8], px: usize, scratch: usize) -> Expected {
             Err(number) => Expected::refused(Fault { number, item: 0 }),
             Ok(area) => lent(new, area, px, scratch),
         },
+    }
+}
+
+/// Painting a sheet, or patching to it where there is an old one.
+pub fn called(old: Option<&[u8]>, new: &[u8], px: usize, scratch: usize) -> Expected {
+    match old {
+        None => paint(new, px, scratch),
+        Some(old) => patch(old, new, px, scratch),
     }
 }

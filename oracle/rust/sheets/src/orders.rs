@@ -2,8 +2,9 @@
 use crate::{
     fixed::{fill, made, push},
     make::pop,
-    Answer,
+    Expected,
 };
+use kash::geom::IRect;
 use std::collections::BTreeSet;
 
 /// The most items of such a sheet, how many sheets there are, and the bytes of the longest.
@@ -11,10 +12,15 @@ pub const MOST: usize = 6;
 pub const COUNT: usize = 1_093;
 pub const LONGEST: usize = 348;
 
-/// The sides of its canvas, the pixels, and what painting it returns: accepted, and the whole canvas.
+/// The sides of its canvas, and the pixels.
 pub const SIDE: u16 = 4;
 pub const PIXELS: usize = 16;
-pub const PAINTED: Answer = Answer { number: 0, item: 0, x0: 0, y0: 0, x1: SIDE as i32, y1: SIDE as i32 };
+
+/// Whether a painting is what that of such a sheet must be: accepted, and the whole canvas.
+pub fn is_whole(painting: &Expected) -> bool {
+    let canvas = IRect::new(0, 0, SIDE as i32, SIDE as i32);
+    (painting.number, painting.item, painting.area) == (0, 0, canvas)
+}
 
 /// What the call returns, as the library returns it.
 #[repr(C)]

@@ -1,5 +1,6 @@
-//! A sheet's check in document 01's order, its painting by the unchanged Rust, and what change request 2026-03 counts of it.
+//! A sheet's check in document 01's order, its painting by the unchanged Rust, and what change requests 2026-03 and 2026-05 count of it.
 use crate::{half, item, Item, LONGEST, MOST_ITEMS, MOST_SAVED, MOST_SIDE, SHORTEST};
+use answers::steps::{Altered, Watch};
 use kash::{color::Color, geom::IRect, gfx::Canvas};
 
 /// A sheet that was read: sides, ground, and each item with its bytes.
@@ -16,6 +17,14 @@ pub struct Sheet {
 pub struct Fault {
     pub number: u32,
     pub item: u32,
+}
+
+/// A fresh painting: its pixels, and inside a box the steps of its shapes that altered a pixel's value, and how many of its chains altered one
+/// at two steps or more.
+pub struct Counted {
+    pub px: Vec<u32>,
+    pub steps: u64,
+    pub twice: u64,
 }
 
 /// Where the items lie, if the pairs run as they must.
@@ -111,14 +120,38 @@ impl Sheet {
         met
     }
 
+    /// The box of the whole canvas.
+    pub fn canvas(&self) -> IRect {
+        IRect::new(0, 0, self.w as i32, self.h as i32)
+    }
+
+    pub fn ground(&self) -> Color {
+        let [r, g, b] = self.ground;
+        Color::rgb(r, g, b)
+    }
+
+    /// A canvas filled with the ground.
+    fn cleared(&self) -> Canvas {
+        let mut canvas = Canvas::new(self.w as i32, self.h as i32);
+        canvas.clear(self.ground());
+        canvas
+    }
+
     /// The pixels of a fresh painting.
     pub fn fresh(&self) -> Vec<u32> {
-        let mut canvas = Canvas::new(self.w as i32, self.h as i32);
-        let [r, g, b] = self.ground;
-        canvas.clear(Color::rgb(r, g, b));
+        let mut canvas = self.cleared();
         for (item, _) in &self.items {
             item.draw(&mut canvas);
         }
         canvas.px
+    }
+
+    /// A fresh painting, counted inside a box.
+    pub fn counted(&self, area: IRect) -> Counted {
+        let mut canvas = self.cleared();
+        let mut watch = Watch::new(&canvas, area);
+        let items: Vec<Altered> = self.items.iter().map(|(item, _)| item.counted(&mut canvas, &mut watch)).collect();
+        let twice = items.iter().filter(|item| item.twice()).count() as u64;
+        Counted { px: canvas.px, steps: items.iter().map(|item| item.steps).sum(), twice }
     }
 }

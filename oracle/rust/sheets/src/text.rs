@@ -8,10 +8,10 @@ pub const AT_HAND: usize = 16_384;
 pub fn text(bytes: &[u8], room: usize) -> String {
     let area = if bytes.len() < 12 { 0 } else { half(bytes, 0) * half(bytes, 2) };
     let expected = paint(bytes, area.min(room), room);
-    let (answer, Some(sheet)) = (expected.answer, &expected.sheet) else {
-        return format!("refused {} at {}\n", expected.answer.number, expected.answer.item);
+    let Some(sheet) = &expected.sheet else {
+        return format!("refused {} at {}\n", expected.number, expected.item);
     };
-    assert_eq!(answer.number, 0);
+    assert_eq!(expected.number, 0);
     let rows = sheet.fresh();
     let row = |row: &[u32]| row.iter().map(|p| format!("{p:08X}")).collect::<Vec<_>>().join(" ") + "\n";
     rows.chunks(sheet.w).map(row).collect()

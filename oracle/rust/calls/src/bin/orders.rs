@@ -1,10 +1,10 @@
 //! Every small clip order as the library writes it, beside the list of rust/sheets, in every room from none to two bytes more than it
 //! needs; numbers past the last; and each sheet painted by the library and by the unchanged Rust. Exit status 1 where anything differs.
 use answers::random::{Random, SEED};
-use calls::{fault, Memory};
+use calls::{Compared, Memory};
 use sheets::{
     fixed,
-    orders::{self, COUNT, LONGEST, PAINTED, PIXELS},
+    orders::{self, is_whole, COUNT, LONGEST, PIXELS},
     paint, SHORTEST,
 };
 use std::{collections::BTreeSet, process::exit};
@@ -18,6 +18,7 @@ const ROOMS: [usize; 6] = [0, SHORTEST - 1, SHORTEST, LONGEST - 1, LONGEST, 400]
 struct Run {
     memory: Memory,
     random: Random,
+    compared: Compared,
     all: Vec<Vec<u8>>,
     calls: u64,
     differ: u64,
@@ -64,9 +65,10 @@ impl Run {
         let px: Vec<u32> = (0..PIXELS).map(|_| self.random.word()).collect();
         let left = self.memory.call_at(None, sheet, &px, &[], [at_start; 4]);
         self.calls += 1;
-        let wrong = fault(&left, &expected, &expected.fresh().unwrap_or(px), &[]);
-        if let Some(what) = wrong.or((expected.answer != PAINTED).then_some("acceptance")) {
-            self.differs(format!("order {number} painted differs in {what}: {:?} beside {:?} of the Rust", left.answer, expected.answer));
+        let after = expected.on(&px);
+        let wrong = self.compared.fault(&left, &after, &[]);
+        if let Some(what) = wrong.or((!is_whole(&expected)).then_some("acceptance")) {
+            self.differs(format!("order {number} painted differs in {what}: {:?} beside {:?} of the Rust", left.answer, after.answer));
         }
     }
 
@@ -82,7 +84,8 @@ impl Run {
 
 fn main() {
     fixed::check();
-    let mut run = Run { memory: Memory::default(), random: Random(SEED + 12), all: orders::all(), calls: 0, differ: 0 };
+    let (memory, random, compared) = (Memory::default(), Random(SEED + 12), Compared::default());
+    let mut run = Run { memory, random, compared, all: orders::all(), calls: 0, differ: 0 };
     let written: Vec<Vec<u8>> = (0..COUNT).map(|number| run.order(number)).collect();
     for (number, sheet) in written.iter().enumerate() {
         run.painted(number, sheet, false);
@@ -96,7 +99,8 @@ fn main() {
         }
     }
     let sheets = written.iter().collect::<BTreeSet<_>>().len();
-    println!("orders: {} calls, {sheets} different sheets, {} numbers past the last, {} differences", run.calls, past.len(), run.differ);
+    let (calls, counts) = (run.calls, run.compared.told());
+    println!("orders: {calls} calls, {sheets} different sheets, {counts}, {} numbers past the last, {} differences", past.len(), run.differ);
     if run.differ > 0 || sheets != COUNT {
         exit(1);
     }

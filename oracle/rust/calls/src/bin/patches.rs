@@ -1,12 +1,14 @@
 //! Lists of patches after an accepted painting, beside the unchanged Rust: `patches CALLS`, or `patches list N` for one list of them.
 //! After each call every pixel must be that of the sheet accepted last, painted afresh. Exit status 1 where anything differs, or where a
-//! number of documents 01 and 02, a way of altering a sheet, a number of differing shapes or a pair with a chain comes too seldom.
+//! number of documents 01 and 02, a way of altering a sheet, a number of differing shapes, a pair with a chain or a patch that alters nothing
+//! comes too seldom.
 use answers::random::{Random, SEED};
-use calls::{dirty, enough, fault, Memory, Numbers, TOLD};
+use calls::{dirty, enough, Compared, Memory, Numbers, TOLD};
 use sheets::{
+    called,
     chains::unseen,
     change::{self, APART, PX, SCRATCH, WAYS},
-    fixed, make, paint, patch, Chains, Made, Sheet,
+    fixed, fixed_counts, make, paint, patch, Chains, Counted, Expected, Made, Sheet,
 };
 use std::{env, process::exit, time::Instant};
 
@@ -25,9 +27,12 @@ struct Run {
     accepted: [u64; WAYS.len()],
     refused: [u64; WAYS.len()],
     empty: u64,
+    /// Accepted patches whose box is not empty, and in which nothing was altered.
+    still: u64,
     /// Accepted patches, and patches refused by 14, by how many shapes differ, in the order of `SETS`.
     sets: [u64; SETS.len()],
     chains: Chains,
+    compared: Compared,
     paintings: u64,
     calls: u64,
     differ: u64,
@@ -38,6 +43,22 @@ struct Ticket {
     kept: Made,
     px: Vec<u32>,
     fresh: Vec<u32>,
+}
+
+/// The pixels and scratch that a patch in a way is lent, after those that stand on the canvas: sometimes not as they must be.
+fn lent(standing: &[u32], new: &[u8], way: usize, random: &mut Random) -> (Vec<u32>, Vec<u32>) {
+    let mut px = standing.to_vec();
+    if way >= APART {
+        px.iter_mut().for_each(|p| *p = random.word());
+    }
+    let seldom = |random: &mut Random| random.below(12) == 0;
+    if way == PX || seldom(random) {
+        px.resize(random.of(&[px.len() - 1, px.len() + 1, 0, 2 * px.len()]), 0);
+    }
+    let need = Sheet::read(new).map_or(random.below(40) as usize, |sheet| sheet.need());
+    let short = way == SCRATCH || seldom(random);
+    let words = if short { random.of(&[need.saturating_sub(1), need / 2, 0]) } else { enough(need, random) };
+    (px, dirty(words, random))
 }
 
 impl Run {
@@ -54,53 +75,41 @@ impl Run {
         let bytes = kept.bytes();
         let (sheet, px) = (Sheet::read(&bytes).expect("a sound sheet"), vec![random.word(); kept.area()]);
         let scratch = dirty(enough(sheet.need(), random), random);
-        let expected = paint(&bytes, px.len(), scratch.len());
+        let after = paint(&bytes, px.len(), scratch.len()).on(&px);
         let left = self.memory.call(None, &bytes, &px, &scratch, random);
-        let fresh = sheet.fresh();
         self.paintings += 1;
-        if let Some(what) = fault(&left, &expected, &fresh, &scratch) {
+        if let Some(what) = self.compared.fault(&left, &after, &scratch) {
             self.differs(name, what, format!("the painting of {bytes:02x?}"));
         }
-        Ticket { kept, px: fresh.clone(), fresh }
+        Ticket { kept, px: after.px.clone(), fresh: after.px }
     }
 
     /// One patch. Where it is accepted, its new sheet is the kept one.
     fn patched(&mut self, name: &str, ticket: &mut Ticket, random: &mut Random) {
         let way = change::way(random);
         let (old, new) = change::patch(&ticket.kept, random, way);
-        let mut px = ticket.px.clone();
-        if way >= APART {
-            px.iter_mut().for_each(|p| *p = random.word());
-        }
-        let seldom = |random: &mut Random| random.below(12) == 0;
-        if way == PX || seldom(random) {
-            px.resize(random.of(&[px.len() - 1, px.len() + 1, 0, 2 * px.len()]), 0);
-        }
-        let need = Sheet::read(&new).map_or(random.below(40) as usize, |sheet| sheet.need());
-        let short = way == SCRATCH || seldom(random);
-        let lent = if short { random.of(&[need.saturating_sub(1), need / 2, 0]) } else { enough(need, random) };
-        let scratch = dirty(lent, random);
+        let (px, scratch) = lent(&ticket.px, &new, way, random);
         let expected = patch(&old, &new, px.len(), scratch.len());
-        let fresh = expected.fresh();
-        let after = expected.pixels(&px, fresh.as_deref());
+        let counted = expected.counted();
+        let after = expected.after(&px, counted.as_ref());
         let left = self.memory.call(Some(&old), &new, &px, &scratch, random);
-        self.count(way, &expected.answer);
-        self.count_pairs(&old, &new, expected.answer.number);
-        if let Some(what) = fault(&left, &expected, &after, &scratch) {
-            self.differs(name, what, format!("{:?} instead of {:?}\n  old {old:02x?}\n  new {new:02x?}", left.answer, expected.answer));
+        self.count(way, &after.answer);
+        self.count_pairs(&old, &new, &expected, counted.as_ref());
+        if let Some(what) = self.compared.fault(&left, &after, &scratch) {
+            self.differs(name, what, format!("{:?} instead of {:?}\n  old {old:02x?}\n  new {new:02x?}", left.answer, after.answer));
         }
         if way >= APART {
             return;
         }
-        if let (Some(sheet), Some(fresh)) = (&expected.sheet, fresh) {
+        if let (Some(sheet), Some(counted)) = (&expected.sheet, counted) {
             ticket.kept = Made::of(sheet);
-            ticket.fresh = fresh;
+            ticket.fresh = counted.px;
         }
         if left.px.len() == ticket.px.len() {
             ticket.px = left.px;
         }
         if ticket.px != ticket.fresh {
-            self.differs(name, "the fresh painting", format!("box {:?}\n  old {old:02x?}\n  new {new:02x?}", expected.answer));
+            self.differs(name, "the fresh painting", format!("box {:?}\n  old {old:02x?}\n  new {new:02x?}", after.answer));
             ticket.px.copy_from_slice(&ticket.fresh);
         }
     }
@@ -114,16 +123,17 @@ impl Run {
         }
         self.accepted[way] += 1;
         self.empty += (answer.x1 == 0) as u64;
+        self.still += (answer.x1 > 0 && (answer.steps, answer.grounded) == (0, 0)) as u64;
     }
 
     /// Which items differ, in a patch that was accepted or refused by 14.
-    fn count_pairs(&mut self, old: &[u8], new: &[u8], number: u32) {
-        if [0, 14].contains(&number) {
+    fn count_pairs(&mut self, old: &[u8], new: &[u8], expected: &Expected, counted: Option<&Counted>) {
+        if [0, 14].contains(&expected.number) {
             let [old, new] = [old, new].map(|bytes| Sheet::read(bytes).expect("a sound sheet"));
             let n = differing(&old, &new);
             self.sets[SETS.iter().rposition(|(from, _)| *from <= n).expect("0 is the first")] += 1;
-            if number == 0 {
-                self.chains.painted(&new);
+            if let Some(counted) = counted {
+                self.chains.painted(&new, counted);
                 self.chains.patched(&old, &new);
             }
         }
@@ -142,6 +152,7 @@ impl Run {
         seldom.extend(self.numbers.report(&[14], calls / 1000, false));
         if told {
             println!("accepted with an empty box {} times", self.empty);
+            println!("accepted with a box in which nothing was altered {} times", self.still);
         }
         if !seldom.is_empty() {
             println!("too seldom: numbers {seldom:?}");
@@ -150,7 +161,11 @@ impl Run {
         if !never.is_empty() {
             println!("chains never seen: {never:?}");
         }
-        let unseen = (0..WAYS.len()).any(|way| self.accepted[way] + self.refused[way] == 0) || self.sets.contains(&0);
+        let nothing = self.empty == 0 || self.still == 0;
+        if nothing {
+            println!("accepted with steps 0 and grounded 0: {} times with an empty box, {} times with another", self.empty, self.still);
+        }
+        let unseen = (0..WAYS.len()).any(|way| self.accepted[way] + self.refused[way] == 0) || self.sets.contains(&0) || nothing;
         !seldom.is_empty() || !never.is_empty() || unseen
     }
 
@@ -163,21 +178,27 @@ impl Run {
         }
     }
 
-    /// Document 01's examples, each on pixels of its old sheet.
+    /// A patch on pixels, or a painting where there is no old sheet.
+    fn example(&mut self, name: &str, old: Option<&[u8]>, new: &[u8], px: &[u32], scratch: usize, random: &mut Random) {
+        let (scratch, after) = (dirty(scratch, random), called(old, new, px.len(), scratch).on(px));
+        let left = self.memory.call(old, new, px, &scratch, random);
+        self.calls += 1;
+        self.numbers.add(after.answer.number);
+        if let Some(what) = self.compared.fault(&left, &after, &scratch) {
+            self.differs(&format!("example {name}"), what, format!("{:?} instead of {:?}", left.answer, after.answer));
+        }
+    }
+
+    /// Document 01's examples, each on pixels of its old sheet, and the calls whose counts are known.
     fn examples(&mut self) {
         let mut random = Random(SEED + 9);
         for (i, p) in fixed::patches().iter().enumerate() {
             let mut px = Sheet::read(&p.old).map_or(vec![7; p.px], |old| old.fresh());
             px.resize(p.px, 7);
-            let scratch = dirty(p.scratch, &mut random);
-            let expected = patch(&p.old, &p.new, p.px, p.scratch);
-            let after = expected.pixels(&px, expected.fresh().as_deref());
-            let left = self.memory.call(Some(&p.old), &p.new, &px, &scratch, &mut random);
-            self.calls += 1;
-            self.numbers.add(expected.answer.number);
-            if let Some(what) = fault(&left, &expected, &after, &scratch) {
-                self.differs(&format!("example {i}"), what, format!("{:?} instead of {:?}", left.answer, expected.answer));
-            }
+            self.example(&i.to_string(), Some(&p.old), &p.new, &px, p.scratch, &mut random);
+        }
+        for c in fixed_counts::counts() {
+            self.example(c.name, c.old.as_deref(), &c.new, &c.before, 0, &mut random);
         }
     }
 }
@@ -204,7 +225,8 @@ fn main() {
         }
     }
     let lacks = run.lacks(calls);
-    println!("patches: {} calls in {lists} lists, each after a painting, {}, {} differences", run.calls, run.chains.share(), run.differ);
+    let (share, counts) = (run.chains.share(), run.compared.told());
+    println!("patches: {} calls in {lists} lists, each after a painting, {share}, {counts}, {} differences", run.calls, run.differ);
     if run.differ > 0 || lacks {
         exit(1);
     }

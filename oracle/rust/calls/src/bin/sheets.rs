@@ -1,8 +1,15 @@
-//! Painting and measuring random sheets, sound and damaged ones, beside the unchanged Rust: `sheets CASES`, or `sheets case N` for one case
-//! of it. Exit status 1 where anything differs, where a number of document 01 or a sort of room comes too seldom, or a sort of chain never.
+//! Painting, counting and measuring random sheets, sound and damaged ones, beside the unchanged Rust: `sheets CASES`, or `sheets case N`
+//! for one case of it. Exit status 1 where anything differs, where a number of document 01 or a sort of room comes too seldom, or a sort of
+//! chain never.
 use answers::random::{Random, SEED};
-use calls::{dirty, enough, fault, rooms::Rooms, Memory, Numbers, TOLD, USUAL};
-use sheets::{chains::unseen, damage::damaged, fixed, fixed_rooms, make, measure, paint, Chains, Room, Sheet};
+use calls::{dirty, enough, rooms::Rooms, Compared, Memory, Numbers, TOLD, USUAL};
+use sheets::{
+    chains::unseen,
+    damage::damaged,
+    fixed,
+    fixed_counts::{busiest, BUSIEST},
+    fixed_rooms, make, measure, paint, Answer, Chains, Counted, Room, Sheet, MOST_SIDE,
+};
 use std::{env, mem::take, process::exit, time::Instant};
 
 /// What a painting is given.
@@ -49,6 +56,7 @@ struct Run {
     numbers: Numbers,
     chains: Chains,
     rooms: Rooms,
+    compared: Compared,
     differ: u64,
     pixels: u64,
 }
@@ -61,29 +69,31 @@ impl Run {
         }
     }
 
-    fn case(&mut self, name: &str, given: &Given, random: &mut Random) {
+    /// One painting, and what measuring its sheet tells. Answers what the painting must return.
+    fn case(&mut self, name: &str, given: &Given, random: &mut Random) -> Answer {
         let px = any_words(given.px, random);
         let scratch = dirty(given.scratch, random);
         let expected = paint(&given.sheet, given.px, given.scratch);
-        let fresh = expected.fresh();
-        let after = expected.pixels(&px, fresh.as_deref());
+        let counted = expected.counted();
+        let after = expected.after(&px, counted.as_ref());
         let left = self.memory.call(None, &given.sheet, &px, &scratch, random);
-        self.numbers.add(expected.answer.number);
-        match &expected.sheet {
-            Some(sheet) => self.chains.painted(sheet),
-            None => self.chains.refused(&given.sheet, &expected.answer),
+        self.numbers.add(expected.number);
+        match (&expected.sheet, &counted) {
+            (Some(sheet), Some(counted)) => self.chains.painted(sheet, counted),
+            _ => self.chains.refused(&given.sheet, &expected),
         }
-        self.pixels += after.len() as u64;
-        if let Some(what) = fault(&left, &expected, &after, &scratch) {
+        self.pixels += after.px.len() as u64;
+        if let Some(what) = self.compared.fault(&left, &after, &scratch) {
             let lent = format!("px {} scratch {}", given.px, given.scratch);
-            self.differs(format!("{name} differs in {what}: {:?} instead of {:?}, {lent}", left.answer, expected.answer), &given.sheet);
+            self.differs(format!("{name} differs in {what}: {:?} instead of {:?}, {lent}", left.answer, after.answer), &given.sheet);
         }
-        self.measured(name, &given.sheet, measure(&given.sheet), fresh, random);
+        self.measured(name, &given.sheet, measure(&given.sheet), counted, random);
+        after.answer
     }
 
-    /// Measures a sheet, and paints an accepted one with just the scratch words that the library tells, and with one fewer; `fresh` are the
-    /// pixels of a fresh painting where they are known.
-    fn measured(&mut self, name: &str, sheet: &[u8], room: Room, fresh: Option<Vec<u32>>, random: &mut Random) {
+    /// Measures a sheet, and paints an accepted one with just the scratch words that the library tells, and with one fewer; `counted` is the
+    /// fresh painting where it is known.
+    fn measured(&mut self, name: &str, sheet: &[u8], room: Room, counted: Option<Counted>, random: &mut Random) {
         let (told, inside) = self.memory.measure(sheet, random.below(4) == 0);
         let read = Sheet::read(sheet);
         self.rooms.measured(read.as_ref().ok(), &room);
@@ -92,31 +102,31 @@ impl Run {
             return self.differs(format!("{name} differs in its room{beside}: {told:?} instead of {room:?}"), sheet);
         }
         let Ok(read) = read else { return };
-        let fresh = fresh.unwrap_or_else(|| read.fresh());
+        let counted = counted.unwrap_or_else(|| read.counted(read.canvas()));
         let scratch = dirty(told.words, random);
-        self.rooms.enough += self.lent(name, sheet, &fresh, &scratch, 0, random) as u64;
+        self.rooms.enough += self.lent(name, sheet, &counted, &scratch, 0, random) as u64;
         if let Some((_, fewer)) = scratch.split_last() {
-            self.rooms.fewer += self.lent(name, sheet, &fresh, fewer, 9, random) as u64;
+            self.rooms.fewer += self.lent(name, sheet, &counted, fewer, 9, random) as u64;
         }
     }
 
-    /// Paints on px and scratch that end at a page that cannot be touched, which must return a number. Answers whether all is as it must be.
-    fn lent(&mut self, name: &str, sheet: &[u8], fresh: &[u32], scratch: &[u32], number: u32, random: &mut Random) -> bool {
-        let px = any_words(fresh.len(), random);
-        let expected = paint(sheet, px.len(), scratch.len());
-        let after = expected.pixels(&px, Some(fresh));
+    /// Paints on px and scratch that end at a page that cannot be touched, which must return a number; px come at random, or as this sheet was
+    /// painted. Answers whether all is as it must be.
+    fn lent(&mut self, name: &str, sheet: &[u8], counted: &Counted, scratch: &[u32], number: u32, random: &mut Random) -> bool {
+        let px = if random.below(2) == 0 { counted.px.clone() } else { any_words(counted.px.len(), random) };
+        let after = paint(sheet, px.len(), scratch.len()).after(&px, Some(counted));
         let left = self.memory.call_at(None, sheet, &px, scratch, [false; 4]);
         let other = (left.answer.number, left.answer.item) != (number, 0);
-        let wrong = fault(&left, &expected, &after, scratch).or(other.then_some("number"));
+        let wrong = self.compared.fault(&left, &after, scratch).or(other.then_some("number"));
         if let Some(what) = wrong {
             let lent = format!("with {} scratch words, to return {number}", scratch.len());
-            self.differs(format!("{name} {lent}, differs in {what}: {:?} instead of {:?}", left.answer, expected.answer), sheet);
+            self.differs(format!("{name} {lent}, differs in {what}: {:?} instead of {:?}", left.answer, after.answer), sheet);
         }
         wrong.is_none()
     }
 
-    /// Document 01's examples, and the sheets whose room is known. Answers how many examples there are.
-    fn fixed(&mut self) -> u64 {
+    /// Document 01's examples, the sheets whose room is known and, where `large`, the busiest one. Answers how many of them are cases.
+    fn fixed(&mut self, large: bool) -> u64 {
         let (examples, rooms) = (examples(), fixed_rooms::rooms());
         fixed_rooms::check(&rooms);
         for (i, given) in examples.iter().enumerate() {
@@ -125,7 +135,17 @@ impl Run {
         for m in rooms {
             self.measured(m.name, &m.sheet, m.room, None, &mut Random(SEED + 13));
         }
-        examples.len() as u64
+        if large {
+            self.busiest();
+        }
+        examples.len() as u64 + large as u64
+    }
+
+    /// The sheet whose steps are more than 32 bits count.
+    fn busiest(&mut self) {
+        let given = Given { sheet: busiest(), px: MOST_SIDE * MOST_SIDE, scratch: 0 };
+        let steps = self.case("the busiest sheet", &given, &mut Random(SEED + 14)).steps;
+        assert_eq!(steps, BUSIEST);
     }
 
     /// Prints what a run of so many cases has seen; answers whether something came too seldom.
@@ -151,7 +171,7 @@ fn main() {
     fixed::check();
     let mut run = Run::default();
     let began = Instant::now();
-    let examples = run.fixed();
+    let examples = run.fixed(to - from >= TOLD);
     let fixed = take(&mut run.rooms);
     for n in from..to {
         let mut random = Random(SEED ^ (n + 1) << 20);
@@ -163,7 +183,8 @@ fn main() {
     }
     let lacks = run.lacks(to - from);
     println!("rooms: {}", run.rooms.beside(&fixed));
-    println!("sheets: {} cases, {} pixels, {}, {} differences", to - from + examples, run.pixels, run.chains.share(), run.differ);
+    let (cases, compared) = (to - from + examples, format!("{} pixels, {}", run.pixels, run.compared.told()));
+    println!("sheets: {cases} cases, {compared}, {}, {} differences", run.chains.share(), run.differ);
     if run.differ > 0 || lacks {
         exit(1);
     }

@@ -1,11 +1,12 @@
 //! Speed of painting and patching a ticket beside the unchanged Rust: `ticket SHEET OTHER FOLDER`, two files of sheets that differ in one
 //! shape, and a folder of four sheets, each with one shape other than in the one before. The smallest time of 200 rounds, the two in turn.
-//! The Rust draws items that were read before, on a canvas that is there. Then what a patch costs by the area of its box and by the number
+//! The Rust draws items that were read before, on a canvas that is there. How many steps of the ticket's shapes altered a pixel is told with it,
+//! each answer being held to what the Rust gives. Then what a patch costs by the area of its box and by the number
 //! of items, what one patch of three shapes costs beside three patches of one, and what checking a sheet of about 60,000 bytes costs
 //! beside painting it, and measuring it beside checking it; and what a weight trace costs as one chain beside the same lines as items.
 use calls::raw::{maldjupp_measure, maldjupp_paint, maldjupp_patch};
-use kash::{color::Color, gfx::Canvas};
-use sheets::{fixed, fixed_chains::chain, make, measure, paint, patch, Answer, Made, Sheet};
+use kash::gfx::Canvas;
+use sheets::{called, fixed, fixed_chains::chain, make, measure, paint, patch, Answer, Made, Sheet};
 use std::{env, fs, hint::black_box, time::Instant};
 
 const ROUNDS: usize = 200;
@@ -18,8 +19,7 @@ fn micros(least: &mut f64, work: impl FnOnce()) {
 
 #[inline(never)]
 fn by_rust(sheet: &Sheet, canvas: &mut Canvas) {
-    let [r, g, b] = sheet.ground;
-    canvas.clear(Color::rgb(r, g, b));
+    canvas.clear(sheet.ground());
     sheet.items.iter().for_each(|(item, _)| item.draw(canvas));
 }
 
@@ -174,7 +174,7 @@ fn beside(old: [Vec<u8>; 2], new: [Vec<u8>; 2], patched: bool) -> ([f64; 2], [An
     let (before, after) = (fresh(&old[0]), fresh(&new[0]));
     assert!(before == fresh(&old[1]) && after == fresh(&new[1]), "chain and lines have the same pixels");
     let (mut px, m, none, mut least) = (before.clone(), before.len(), std::ptr::NonNull::<f32>::dangling().as_ptr(), [f64::MAX; 2]);
-    let answers = [0, 1].map(|i| if patched { patch(&old[i], &new[i], m, 0) } else { paint(&new[i], m, 0) }.answer);
+    let answers = [0, 1].map(|i| called(patched.then_some(&old[i]), &new[i], m, 0).on(&before).answer);
     for i in (0..2 * ROUNDS).map(|round| round % 2) {
         px.copy_from_slice(&before);
         let (old, new, p) = (&old[i], &new[i], px.as_mut_ptr());
@@ -206,36 +206,51 @@ fn traces() {
     row("patched, the last point is added, box", traced(63, 248, 230), whole(), true, "");
 }
 
+/// How many steps of the ticket's shapes altered a pixel, painted and patched, beside the pixels in their reach and clip.
+fn busy(painting: &Answer, patching: &Answer, pixels: u64) {
+    let [painted, patched] = [painting, patching].map(|answer| (answer.steps, 100.0 * answer.steps as f64 / pixels as f64));
+    let reached = format!("of the {pixels} pixels in their reach and clip");
+    print!("\nPainted, the ticket's shapes altered a pixel at {} steps, {:.1} % {reached}; ", painted.0, painted.1);
+    println!("patched, at {} steps, {:.1} %.", patched.0, patched.1);
+}
+
+/// Times a ticket beside the Rust: painted on its own pixels and then patched to the other, the two in turn.
+fn ticket(bytes: &[Vec<u8>; 2]) {
+    let sheets = bytes.each_ref().map(|b| Sheet::read(b).expect("a sound sheet"));
+    let fresh = sheets.each_ref().map(Sheet::fresh);
+    let (mut canvas, mut px) = (Canvas::new(sheets[0].w as i32, sheets[0].h as i32), fresh[0].clone());
+    let mut scratch = vec![0f32; sheets[0].need().max(sheets[1].need())];
+    let (m, k) = (px.len(), scratch.len());
+    let painting = [0, 1].map(|i| paint(&bytes[i], m, k).on(&fresh[i]).answer);
+    let patching = [0, 1].map(|i| patch(&bytes[i], &bytes[1 - i], m, k).on(&fresh[i]).answer);
+    assert_eq!(patching[0].number, 0, "the sheets differ in more than shapes");
+    let (mut painted, mut patched, mut rust) = (f64::MAX, f64::MAX, f64::MAX);
+    for i in (0..ROUNDS).map(|round| round % 2) {
+        let (old, new, p, s) = (&bytes[i], &bytes[1 - i], px.as_mut_ptr(), scratch.as_mut_ptr());
+        micros(&mut painted, || assert_eq!(black_box(unsafe { maldjupp_paint(old.as_ptr(), old.len(), p, m, s, k) }), painting[i]));
+        micros(&mut patched, || {
+            let answer = unsafe { maldjupp_patch(old.as_ptr(), old.len(), new.as_ptr(), new.len(), p, m, s, k) };
+            assert_eq!(black_box(answer), patching[i]);
+        });
+        micros(&mut rust, || by_rust(black_box(&sheets[1 - i]), &mut canvas));
+        assert!(px == canvas.px);
+    }
+    let (n, area) = (sheets[0].items.len(), patching[0]);
+    println!("| ticket, {} × {}, {n} items | Rattle µs | Rust µs | ratio |", canvas.w, canvas.h);
+    println!("|---|---|---|---|");
+    println!("| painted | {painted:.0} | {rust:.0} | {:.2} |", painted / rust);
+    let (w, h) = (area.x1 - area.x0, area.y1 - area.y0);
+    println!("| patched, box {w} × {h}; the Rust paints it anew | {patched:.0} | {rust:.0} | {:.2} |", patched / rust);
+    let [checked, measured] = checks(&bytes[0]);
+    println!("| measured; read and checked alone {checked:.1} | {measured:.1} |  |  |");
+    busy(&painting[0], &patching[0], measure(&bytes[0]).pixels);
+}
+
 fn main() {
     let word = |i: usize| env::args().nth(i).expect("usage: ticket SHEET OTHER FOLDER");
     let file = |i: usize| fs::read(word(i)).expect("a file");
     let settled = ["0-before", "1-gross", "2-tare", "3-grade"].map(|name| fs::read(format!("{}/{name}.sheet", word(3))).expect("a file"));
-    let bytes = [file(1), file(2)];
-    let sheets = bytes.each_ref().map(|b| Sheet::read(b).expect("a sound sheet"));
-    let mut canvas = Canvas::new(sheets[0].w as i32, sheets[0].h as i32);
-    let mut px = canvas.px.clone();
-    let mut scratch = vec![0f32; sheets[0].need().max(sheets[1].need())];
-    let area = patch(&bytes[0], &bytes[1], px.len(), scratch.len()).answer;
-    assert_eq!(area.number, 0, "the sheets differ in more than shapes");
-    let (mut painted, mut patched, mut rust) = (f64::MAX, f64::MAX, f64::MAX);
-    for round in 0..ROUNDS {
-        let (old, new) = (&bytes[round % 2], &bytes[1 - round % 2]);
-        let (p, m, s, k) = (px.as_mut_ptr(), px.len(), scratch.as_mut_ptr(), scratch.len());
-        micros(&mut painted, || assert_eq!(black_box(unsafe { maldjupp_paint(old.as_ptr(), old.len(), p, m, s, k) }).number, 0));
-        micros(&mut patched, || {
-            let answer = unsafe { maldjupp_patch(old.as_ptr(), old.len(), new.as_ptr(), new.len(), p, m, s, k) };
-            assert_eq!(black_box(answer), area);
-        });
-        micros(&mut rust, || by_rust(black_box(&sheets[1 - round % 2]), &mut canvas));
-        assert!(px == canvas.px);
-    }
-    let (n, w, h) = (sheets[0].items.len(), area.x1 - area.x0, area.y1 - area.y0);
-    println!("| ticket, {} × {}, {n} items | Rattle µs | Rust µs | ratio |", canvas.w, canvas.h);
-    println!("|---|---|---|---|");
-    println!("| painted | {painted:.0} | {rust:.0} | {:.2} |", painted / rust);
-    println!("| patched, box {w} × {h}; the Rust paints it anew | {patched:.0} | {rust:.0} | {:.2} |", patched / rust);
-    let [checked, measured] = checks(&bytes[0]);
-    println!("| measured; read and checked alone {checked:.1} | {measured:.1} |  |  |");
+    ticket(&[file(1), file(2)]);
     sizes();
     largest();
     sets_by_items(&settled);

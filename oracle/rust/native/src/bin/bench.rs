@@ -52,7 +52,7 @@ fn drawn(name: &str, target: &str, calls: &[Call]) {
     let mut scratch = vec![0.0; calls.iter().map(Call::need).max().unwrap_or(0)];
     let (mut ours, mut theirs) = (Best(f64::MAX), Best(f64::MAX));
     for _ in 0..ROUNDS / 5 {
-        ours.round(|| words.iter().for_each(|call| assert_eq!(native::shape(black_box(call), &mut px, &mut scratch), 0)));
+        ours.round(|| words.iter().for_each(|call| assert_eq!(native::shape(black_box(call), &mut px, &mut scratch).number, 0)));
         theirs.round(|| calls.iter().for_each(|call| black_box(call).draw(&mut canvas)));
     }
     assert!(px == canvas.px);

@@ -8,6 +8,7 @@ use answers::{
     shape::{self, Call, Given, Scene},
 };
 use kash::gfx::Canvas;
+use native::Drawn;
 use std::{env, process::exit, time::Instant};
 
 const BLOCK: usize = 4096;
@@ -15,6 +16,7 @@ const BLOCK: usize = 4096;
 struct Run {
     whole: bool,
     cases: u64,
+    steps: u64,
     differ: u64,
 }
 
@@ -205,13 +207,13 @@ fn paint_cases(run: &mut Run, random: &mut Random) {
     }
 }
 
-/// Draws a call on pixels and dirty scratch; whether pixels, number and every scratch word are as they must be.
-fn same_shape(words: &[u32], need: usize, px: &mut [u32], after: &[u32], random: &mut Random) -> bool {
+/// Draws a call on pixels and dirty scratch; whether pixels, number, steps and every scratch word are as they must be.
+fn same_shape(words: &[u32], need: usize, px: &mut [u32], after: &[u32], steps: u64, random: &mut Random) -> bool {
     let mut scratch = vec![f32::NAN; need + random.below(5) as usize];
-    let number = native::shape(&native::bytes(words), px, &mut scratch);
+    let drawn = native::shape(&native::bytes(words), px, &mut scratch);
     let (used, rest) = scratch.split_at(need);
     let swept = used.iter().all(|x| x.to_bits() == 0) && rest.iter().all(|x| x.to_bits() == f32::NAN.to_bits());
-    number == 0 && swept && px == after
+    drawn == Drawn { number: 0, steps } && swept && px == after
 }
 
 /// A call with one thing wrong, or two: whether it is refused by its number and alters nothing. None where it is not refused.
@@ -226,54 +228,80 @@ fn same_refusal(mut call: Call, canvas: &Canvas, random: &mut Random) -> Option<
     let (mut px, mut scratch) = (before.clone(), vec![f32::NAN; given.scratch]);
     let said = native::shape(&native::bytes(&call.words_on(given.sides, given.clip)), &mut px, &mut scratch);
     let kept = scratch.iter().all(|x| x.to_bits() == f32::NAN.to_bits());
-    Some((number, said == number && px == before && kept))
+    Some((number, said == Drawn { number, steps: 0 } && px == before && kept))
 }
 
-/// Sequences of shapes on one canvas, every pixel compared after each call.
+/// What a run has seen of shapes: by the shape, calls and those that differ; by the number, refusals, and those that differ; branches taken;
+/// the steps that altered a pixel's value, and the chains that altered one at two steps or more.
+#[derive(Default)]
+struct Seen {
+    ran: [u64; shape::NAMES.len()],
+    differ: [u64; shape::NAMES.len()],
+    refused: [u64; 14],
+    wrong: u64,
+    taken: Taken,
+    steps: u64,
+    twice: u64,
+}
+
+impl Seen {
+    /// One call on the canvas of a scene and on pixels that are the same; at times refused ones before it.
+    fn call(&mut self, scene: &mut Scene, px: &mut [u32], random: &mut Random) {
+        let call = scene.next(random);
+        let (words, f) = (call.words(&scene.canvas), call.f as usize - 1);
+        if random.below(8) == 0 {
+            if let Some((number, same)) = same_refusal(call.clone(), &scene.canvas, random) {
+                self.refused[number as usize] += 1;
+                self.wrong += !same as u64;
+            }
+        }
+        self.taken.count(&call, scene.canvas.clip());
+        let altered = call.counted(&mut scene.canvas);
+        self.steps += altered.steps;
+        self.twice += altered.twice() as u64;
+        self.ran[f] += 1;
+        if !same_shape(&words, call.need(), px, &scene.canvas.px, altered.steps, random) {
+            self.differ[f] += 1;
+            if self.differ[f] <= 3 {
+                println!("{} differs: {words:08x?}", shape::NAMES[f]);
+            }
+            px.copy_from_slice(&scene.canvas.px);
+        }
+    }
+
+    /// Adds to a run what was seen, and holds it to have seen every number, every branch, and a chain that was counted twice at a pixel.
+    fn report(&self, run: &mut Run, began: Instant) {
+        for (f, name) in shape::NAMES.iter().enumerate() {
+            run.report(name, self.ran[f], self.differ[f], began);
+        }
+        for number in [6, 8, 9, 12, 13] {
+            assert!(self.refused[number] > 0, "no call was refused by {number}");
+            if run.whole {
+                println!("refused by {number:<17} {:>11} times", self.refused[number]);
+            }
+        }
+        run.report("refused shapes", self.refused.iter().sum(), self.wrong, began);
+        for (name, times) in branches::NAMES.map(|name| (name, self.taken.of(name))).into_iter().chain([("polyline: a pixel twice", self.twice)]) {
+            if run.whole {
+                println!("{name:28} {times:>11} times");
+            }
+            assert!(times > 0, "no call took the branch {name}");
+        }
+        run.steps += self.steps;
+    }
+}
+
+/// Sequences of shapes on one canvas, every pixel compared after each call, and its steps.
 fn shapes(run: &mut Run, random: &mut Random, calls: u64) {
-    let (began, mut ran, mut differ) = (Instant::now(), [0; shape::NAMES.len()], [0; shape::NAMES.len()]);
-    let mut taken = Taken::default();
-    let (mut refused, mut wrong) = ([0; 14], 0);
-    while ran.iter().sum::<u64>() < calls {
+    let (began, mut seen) = (Instant::now(), Seen::default());
+    while seen.ran.iter().sum::<u64>() < calls {
         let mut scene = Scene::new(random);
         let mut px = scene.canvas.px.clone();
         while scene.left > 0 {
-            let call = scene.next(random);
-            let (words, f) = (call.words(&scene.canvas), call.f as usize - 1);
-            if random.below(8) == 0 {
-                if let Some((number, same)) = same_refusal(call.clone(), &scene.canvas, random) {
-                    refused[number as usize] += 1;
-                    wrong += !same as u64;
-                }
-            }
-            taken.count(&call, scene.canvas.clip());
-            call.draw(&mut scene.canvas);
-            ran[f] += 1;
-            if !same_shape(&words, call.need(), &mut px, &scene.canvas.px, random) {
-                differ[f] += 1;
-                if differ[f] <= 3 {
-                    println!("{} differs: {words:08x?}", shape::NAMES[f]);
-                }
-                px.copy_from_slice(&scene.canvas.px);
-            }
+            seen.call(&mut scene, &mut px, random);
         }
     }
-    for (f, name) in shape::NAMES.iter().enumerate() {
-        run.report(name, ran[f], differ[f], began);
-    }
-    for number in [6, 8, 9, 12, 13] {
-        assert!(refused[number] > 0, "no call was refused by {number}");
-        if run.whole {
-            println!("refused by {number:<17} {:>11} times", refused[number]);
-        }
-    }
-    run.report("refused shapes", refused.iter().sum(), wrong, began);
-    for name in branches::NAMES {
-        if run.whole {
-            println!("{name:28} {:>11} times", taken.of(name));
-        }
-        assert!(taken.of(name) > 0, "no call took the branch {name}");
-    }
+    seen.report(run, began);
 }
 
 /// A shadow whose alpha falls by one level from column to column.
@@ -288,12 +316,12 @@ fn levels(run: &mut Run, random: &mut Random) {
     for alpha in 0..=255u8 {
         let (call, mut canvas) = (falling(alpha), Canvas::new(98, 1));
         let mut px = canvas.px.clone();
-        call.draw(&mut canvas);
+        let steps = call.counted(&mut canvas).steps;
         for (i, p) in canvas.px.iter().enumerate() {
             let level = if i < 96 { (kash::fraction(i) * alpha as f32 + 0.5) as u32 } else { 0 };
             assert_eq!(*p, level * 0x01_0101, "level {i} of alpha {alpha}");
         }
-        differ += !same_shape(&call.words(&canvas), 0, &mut px, &canvas.px, random) as u64;
+        differ += !same_shape(&call.words(&canvas), 0, &mut px, &canvas.px, steps, random) as u64;
     }
     run.report("shadow's levels", 256, differ, began);
 }
@@ -305,7 +333,7 @@ fn main() {
         Some("short") => (false, true, 60_000),
         _ => panic!("usage: compare whole|shapes|short"),
     };
-    let mut run = Run { whole, cases: 0, differ: 0 };
+    let mut run = Run { whole, cases: 0, steps: 0, differ: 0 };
     let mut random = Random(SEED + 3);
     if leaves {
         one_float(&mut run);
@@ -318,7 +346,7 @@ fn main() {
     }
     shapes(&mut run, &mut random, calls);
     levels(&mut run, &mut random);
-    println!("comparison with the Rust: {} cases, {} differences", run.cases, run.differ);
+    println!("comparison with the Rust: {} cases, {} steps of shapes, {} differences", run.cases, run.steps, run.differ);
     if run.differ > 0 {
         exit(1);
     }
