@@ -1,5 +1,5 @@
-/* Measures and paints a small ticket, patches it, draws it call by call, lets a trace grow, takes every small clip order, and checks every
- * answer.
+/* Measures and paints a small ticket, patches it, draws it call by call, counts steps, lets a trace grow, takes every small clip order, and
+ * checks every answer. The counts are worked out by hand, or by the pixels that differ.
  *
  *   cc -std=c11 -Wall -Wextra -Werror -I bindings/c bindings/c/example.c -L target/staticlib -lmaldjupp -o example */
 #include "maldjupp.h"
@@ -135,11 +135,25 @@ static int took(struct maldjupp_done d) {
     return d.number == MALDJUPP_ACCEPTED;
 }
 
+/* A shape's answer without its count. */
+static struct maldjupp_done uncounted(struct maldjupp_counted c) {
+    struct maldjupp_done d = {c.number, c.canvas};
+    return d;
+}
+
+/* How many steps of the shape drawn last altered a pixel. */
+static uint64_t counted;
+
+static int drew(struct maldjupp_counted c) {
+    counted = c.steps;
+    return took(uncounted(c));
+}
+
 static struct maldjupp_color hex(uint32_t rgb) { return maldjupp_rgb((uint8_t)(rgb >> 16), (uint8_t)(rgb >> 8), (uint8_t)rgb); }
 
 static int fill_call(float x, float y, float w, float h, uint32_t rgb) {
     struct maldjupp_rect rect = {x, y, w, h};
-    return took(maldjupp_fill_rect(canvas, px2, W * H, rect, maldjupp_solid(hex(rgb))));
+    return drew(maldjupp_fill_rect(canvas, px2, W * H, rect, maldjupp_solid(hex(rgb))));
 }
 
 /* The ticket of `ticket`, call by call. */
@@ -147,7 +161,7 @@ static int ticket_calls(uint32_t grade, float bar, float *scratch, size_t words)
     const float corner[] = {17, 3, 21, 3, 17, 7};
     return took(maldjupp_new(W, H, px2, W * H)) && took(maldjupp_clear(canvas, px2, W * H, hex(0xDEDBD2))) &&
            fill_call(1, 1, 22, 14, 0xFDFCF8) && fill_call(3, 3, 5, 5, grade) && fill_call(3, 11, bar, 2, 0x207A4E) &&
-           took(maldjupp_fill_poly(canvas, px2, W * H, corner, 6, maldjupp_solid(hex(0x3A6292)), scratch, words));
+           drew(maldjupp_fill_poly(canvas, px2, W * H, corner, 6, maldjupp_solid(hex(0x3A6292)), scratch, words));
 }
 
 static int failed;
@@ -157,8 +171,16 @@ static void check(const char *what, int sound) {
     failed += !sound;
 }
 
-static int is(struct maldjupp_reply r, uint32_t number, uint32_t item, int32_t x0, int32_t y0, int32_t x1, int32_t y1) {
-    return r.number == number && r.item == item && r.x0 == x0 && r.y0 == y0 && r.x1 == x1 && r.y1 == y1;
+static int is(struct maldjupp_reply r, uint32_t number, uint32_t item, int32_t x0, int32_t y0, int32_t x1, int32_t y1, uint64_t steps,
+              uint64_t grounded) {
+    return r.number == number && r.item == item && r.x0 == x0 && r.y0 == y0 && r.x1 == x1 && r.y1 == y1 && r.steps == steps &&
+           r.grounded == grounded;
+}
+
+static int is_refused(struct maldjupp_reply r, uint32_t number, uint32_t item) { return is(r, number, item, 0, 0, 0, 0, 0, 0); }
+
+static int is_altered(struct maldjupp_reply r, int32_t x0, int32_t y0, int32_t x1, int32_t y1, uint64_t steps, uint64_t grounded) {
+    return is(r, MALDJUPP_ACCEPTED, 0, x0, y0, x1, y1, steps, grounded);
 }
 
 static int is_room(struct maldjupp_room r, uint32_t number, uint32_t item, size_t words, size_t saved, uint64_t pixels) {
@@ -169,8 +191,17 @@ static int is_box(struct maldjupp_boxed b, uint32_t number, int32_t x0, int32_t 
     return b.number == number && b.area.x0 == x0 && b.area.y0 == y0 && b.area.x1 == x1 && b.area.y1 == y1;
 }
 
-/* Whether a call was refused by a number and gave the canvas back. */
+/* Whether a call was refused by a number and gave the canvas back; a shape with a count of 0. */
 static int refused(struct maldjupp_done d, uint32_t number) { return d.number == number && memcmp(&d.canvas, &canvas, sizeof canvas) == 0; }
+
+static int refused_shape(struct maldjupp_counted c, uint32_t number) { return c.steps == 0 && refused(uncounted(c), number); }
+
+/* In how many places two lists of pixels differ. */
+static uint64_t differing(const uint32_t *a, const uint32_t *b, size_t pixels) {
+    uint64_t count = 0;
+    for (size_t i = 0; i < pixels; i++) count += a[i] != b[i];
+    return count;
+}
 
 /* What painting takes: each figure, scratch that is just enough, and refusals. */
 static void rooms(void) {
@@ -184,8 +215,9 @@ static void rooms(void) {
     n = bytes_of(&s, W, H, 0xDEDBD2, sheet);
     /* The triangle's box is 4 by 4, made 2 larger: (6 + 2) * 6 + 2 words. The clip leaves 10 by 6 of the fill. */
     check("50 words, 2 clips at once, 60 and 36 pixels", is_room(maldjupp_measure(sheet, n), MALDJUPP_ACCEPTED, 0, 50, 2, 60 + 36));
-    check("so many words are enough", is(maldjupp_paint(sheet, n, px, W * H, scratch, 50), MALDJUPP_ACCEPTED, 0, 0, 0, W, H));
-    check("one fewer: refused 9", is(maldjupp_paint(sheet, n, px, W * H, scratch, 49), MALDJUPP_SCRATCH, 0, 0, 0, 0, 0));
+    /* Of the triangle, 4, 3, 2 and 1 pixels of a row are covered, the last of each by half. */
+    check("so many words are enough", is_altered(maldjupp_paint(sheet, n, px, W * H, scratch, 50), 0, 0, W, H, 60 + 10, W * H));
+    check("one fewer: refused 9", is_refused(maldjupp_paint(sheet, n, px, W * H, scratch, 49), MALDJUPP_SCRATCH, 0));
     check("11 bytes measured: refused 1, three zeros", is_room(maldjupp_measure(sheet, 11), MALDJUPP_SHEET_LENGTH, 0, 0, 0, 0));
     for (int i = 0; i < 16; i++) push(&s, 0, 0, W, H);
     n = bytes_of(&s, W, H, 0xDEDBD2, sheet);
@@ -204,22 +236,26 @@ static void calls(void) {
     check("the whole canvas is bounds and clip", is_box(maldjupp_bounds(canvas), 0, 0, 0, W, H) && is_box(maldjupp_clip(canvas), 0, 0, 0, W, H));
     check("a clip is pushed", took(maldjupp_push_clip(canvas, rect)) && is_box(maldjupp_clip(canvas), 0, 2, 2, 12, 11));
     memcpy(before, px2, sizeof px2), memcpy(lines, px2, sizeof px2);
+    struct maldjupp_counted both = maldjupp_polyline(canvas, px2, W * H, way, 6, 2, red);
+    struct maldjupp_counted one = maldjupp_line(canvas, lines, W * H, a, b, 2, red);
+    uint64_t altered = differing(lines, before, W * H);
+    struct maldjupp_counted other = maldjupp_line(canvas, lines, W * H, b, c, 2, red);
     check("a polyline under it is its lines",
-          took(maldjupp_polyline(canvas, px2, W * H, way, 6, 2, red)) && took(maldjupp_line(canvas, lines, W * H, a, b, 2, red)) &&
-              took(maldjupp_line(canvas, lines, W * H, b, c, 2, red)) && memcmp(px2, lines, sizeof px2) == 0 && memcmp(px2, before, sizeof px2) != 0);
+          drew(both) && drew(one) && drew(other) && memcmp(px2, lines, sizeof px2) == 0 && memcmp(px2, before, sizeof px2) != 0);
+    check("so is its count", one.steps == altered && one.steps > 0 && other.steps > 0 && both.steps == one.steps + other.steps);
     check("no pixel outside it is altered", px2[3 * W + 12] == before[3 * W + 12] && px2[11 * W + 8] == before[11 * W + 8]);
     check("a pixel is read, the nearest inside",
           maldjupp_get(canvas, px2, W * H, 4, 3).value == px2[3 * W + 4] && maldjupp_get(canvas, px2, W * H, 99, -9).value == px2[W - 1]);
 
     struct maldjupp_brush brush = maldjupp_linear(a, b, red, red);
     memcpy(before, px2, sizeof px2), brush.kind = 4;
-    check("a brush of kind 4: refused 5", refused(maldjupp_fill_rect(canvas, px2, W * H, rect, brush), MALDJUPP_ZERO_BYTE));
-    check("a radius of 8,193: refused 6", refused(maldjupp_ring(canvas, px2, W * H, 5, 5, 8193, 1, red), MALDJUPP_FLOAT));
-    check("an odd count of coordinates: refused 13", refused(maldjupp_polyline(canvas, px2, W * H, way, 5, 2, red), MALDJUPP_POINTS));
+    check("a brush of kind 4: refused 5", refused_shape(maldjupp_fill_rect(canvas, px2, W * H, rect, brush), MALDJUPP_ZERO_BYTE));
+    check("a radius of 8,193: refused 6", refused_shape(maldjupp_ring(canvas, px2, W * H, 5, 5, 8193, 1, red), MALDJUPP_FLOAT));
+    check("an odd count of coordinates: refused 13", refused_shape(maldjupp_polyline(canvas, px2, W * H, way, 5, 2, red), MALDJUPP_POINTS));
     check("a pixel too few: refused 8", refused(maldjupp_clear(canvas, px2, W * H - 1, red), MALDJUPP_PIXELS));
     check("a side over 2,048: refused 2", refused(maldjupp_resize(canvas, 2049, H, px2, W * H), MALDJUPP_HEADER));
     canvas.saved[9].y1 = 1;
-    check("an unused place filled: refused 12", refused(maldjupp_stroke_rrect(canvas, px2, W * H, rect, 1, 1, red), MALDJUPP_STATE));
+    check("an unused place filled: refused 12", refused_shape(maldjupp_stroke_rrect(canvas, px2, W * H, rect, 1, 1, red), MALDJUPP_STATE));
     check("refused, nothing is altered", memcmp(px2, before, sizeof px2) == 0);
     canvas.saved[9].y1 = 0;
     check("the clip is popped", took(maldjupp_pop_clip(canvas)) && is_box(maldjupp_clip(canvas), 0, 0, 0, W, H));
@@ -234,51 +270,86 @@ static void shapes(void) {
     const struct maldjupp_pt left = {0, 0}, right = {W, 0}, middle = {12, 8};
     const struct maldjupp_box half = {-5, -5, 12, 99};
     check("a gradient from top to bottom",
-          took(maldjupp_fill_rect(canvas, px2, W * H, all, maldjupp_vgrad(0, H, black, white))) &&
+          drew(maldjupp_fill_rect(canvas, px2, W * H, all, maldjupp_vgrad(0, H, black, white))) &&
               at(0, 0) == at(23, 0) && at(0, 0) < at(0, 15));
     check("a gradient from left to right",
-          took(maldjupp_fill_rect(canvas, px2, W * H, all, maldjupp_linear(left, right, black, white))) &&
+          drew(maldjupp_fill_rect(canvas, px2, W * H, all, maldjupp_linear(left, right, black, white))) &&
               at(0, 0) == at(0, 15) && at(0, 0) < at(23, 0));
     check("a gradient from the middle",
-          took(maldjupp_fill_rect(canvas, px2, W * H, all, maldjupp_radial(middle, 12, black, white))) &&
+          drew(maldjupp_fill_rect(canvas, px2, W * H, all, maldjupp_radial(middle, 12, black, white))) &&
               at(20, 8) == at(3, 8) && at(12, 8) < at(20, 8));
     check("a circle, cut to its left half",
           took(maldjupp_clear(canvas, px2, W * H, white)) && took(maldjupp_push_clip_i(canvas, half)) &&
-              took(maldjupp_fill_circle(canvas, px2, W * H, 12, 8, 6, maldjupp_solid(black))) && took(maldjupp_pop_clip(canvas)) &&
+              drew(maldjupp_fill_circle(canvas, px2, W * H, 12, 8, 6, maldjupp_solid(black))) && took(maldjupp_pop_clip(canvas)) &&
               at(11, 8) == 0 && at(12, 8) == 0xFFFFFF && at(6, 3) == 0xFFFFFF);
-    check("round corners", took(maldjupp_fill_rrect(canvas, px2, W * H, inner, 4, maldjupp_solid(black))) && at(4, 4) == 0xFFFFFF && at(5, 8) == 0);
+    check("round corners", drew(maldjupp_fill_rrect(canvas, px2, W * H, inner, 4, maldjupp_solid(black))) && at(4, 4) == 0xFFFFFF && at(5, 8) == 0);
     check("an outline, inside its edge",
-          took(maldjupp_clear(canvas, px2, W * H, white)) && took(maldjupp_stroke_rrect(canvas, px2, W * H, inner, 0, 2, black)) &&
+          took(maldjupp_clear(canvas, px2, W * H, white)) && drew(maldjupp_stroke_rrect(canvas, px2, W * H, inner, 0, 2, black)) &&
               at(5, 8) == 0 && at(6, 8) == 0xFFFFFF && at(3, 8) == 0xFFFFFF);
-    check("a ring", took(maldjupp_clear(canvas, px2, W * H, white)) && took(maldjupp_ring(canvas, px2, W * H, 12, 8, 6, 2, black)) &&
+    check("a ring", took(maldjupp_clear(canvas, px2, W * H, white)) && drew(maldjupp_ring(canvas, px2, W * H, 12, 8, 6, 2, black)) &&
                         at(7, 8) == 0 && at(12, 8) == 0xFFFFFF && at(4, 8) == 0xFFFFFF);
     check("a shadow without its middle",
-          took(maldjupp_shadow_rrect(canvas, px2, W * H, inner, 1, 2, black, true)) && at(12, 8) == 0xFFFFFF && at(4, 8) < 0xFFFFFF);
-    check("and with it", took(maldjupp_shadow_rrect(canvas, px2, W * H, inner, 1, 2, black, false)) && at(12, 8) < 0xFFFFFF);
+          drew(maldjupp_shadow_rrect(canvas, px2, W * H, inner, 1, 2, black, true)) && at(12, 8) == 0xFFFFFF && at(4, 8) < 0xFFFFFF);
+    check("and with it", drew(maldjupp_shadow_rrect(canvas, px2, W * H, inner, 1, 2, black, false)) && at(12, 8) < 0xFFFFFF);
     check("another size: pixels of 0",
           took(maldjupp_resize(canvas, H, W, px2, W * H)) && is_box(maldjupp_bounds(canvas), 0, 0, 0, H, W) && at(12, 8) == 0);
+}
+
+/* A new canvas, all white. */
+static int whitened(void) { return took(maldjupp_new(W, H, px2, W * H)) && took(maldjupp_clear(canvas, px2, W * H, hex(0xFFFFFF))); }
+
+/* How many steps of a shape alter a pixel, and how many bytes the answers have. */
+static void counts(void) {
+    static uint32_t before[W * H];
+    const struct maldjupp_box clip = {4, 4, 9, 9};
+    const struct maldjupp_rect all = {0, 0, W, H};
+    const float way[] = {2, 2.5f, 8, 2.5f, 14, 2.5f};
+    const struct maldjupp_brush clear = maldjupp_solid(maldjupp_rgba(0, 0, 0, 0));
+    check("an answer has 40 bytes, its counts at 24 and 32",
+          sizeof(struct maldjupp_reply) == 40 && offsetof(struct maldjupp_reply, steps) == 24 && offsetof(struct maldjupp_reply, grounded) == 32);
+    check("a shape's has 304, its count at 296",
+          sizeof(struct maldjupp_counted) == 304 && offsetof(struct maldjupp_counted, canvas) == 8 &&
+              offsetof(struct maldjupp_counted, steps) == 296);
+    check("a fill of 5 by 4: 20 steps", whitened() && fill_call(2, 3, 5, 4, copper) && counted == 20);
+    check("the same again: 0", fill_call(2, 3, 5, 4, copper) && counted == 0);
+    check("a part of it over: 6", fill_call(3, 4, 3, 2, brass) && counted == 6);
+    check("an alpha of 0: 0", drew(maldjupp_fill_rect(canvas, px2, W * H, all, clear)) && counted == 0);
+    check("under a clip: 9", took(maldjupp_push_clip_i(canvas, clip)) && fill_call(2, 3, 5, 4, 0) && counted == 9);
+    check("a radius of 8,193: refused 6, and 0",
+          refused_shape(maldjupp_fill_circle(canvas, px2, W * H, 5, 5, 8193, maldjupp_solid(hex(copper))), MALDJUPP_FLOAT));
+
+    check("a pixel's uppermost byte counts: 1", whitened() && (px2[W] |= 0xFF000000) && fill_call(0, 0, 3, 3, 0xFFFFFF) && counted == 1);
+    /* Each line alters 10 columns by 3 rows, of which they share 4 columns around the joint. */
+    memcpy(before, px2, sizeof px2);
+    check("a joint counts twice: 60 steps at 48 pixels",
+          drew(maldjupp_polyline(canvas, px2, W * H, way, 6, 3, maldjupp_rgba(0, 0, 0, 128))) && counted == 60 &&
+              differing(px2, before, W * H) == 48);
+    check("a polyline of one point: 0", drew(maldjupp_polyline(canvas, px2, W * H, way, 2, 3, hex(copper))) && counted == 0);
 }
 
 /* A trace that grows point by point, and one that is too long. */
 static void traces(void) {
     enum { POINTS = 32 };
     static uint8_t old[MOST], new[MOST], lines[MOST];
-    static uint32_t px[W * H], fresh[W * H], apart[W * H];
+    static uint32_t px[W * H], fresh[W * H], apart[W * H], paper[W * H];
     float none = 0;
-    size_t n = trace(0, old), m, grown = 0, alike = 0;
-    maldjupp_paint(old, n, px, W * H, &none, 0);
+    size_t n = trace(0, old), m, grown = 0, alike = 0, same = 0;
+    maldjupp_paint(old, n, px, W * H, &none, 0), memcpy(paper, px, sizeof px);
     for (size_t points = 1; points <= POINTS; points++) {
         m = trace(points, new), grown += maldjupp_patch(old, n, new, m, px, W * H, &none, 0).number == MALDJUPP_ACCEPTED;
-        maldjupp_paint(new, m, fresh, W * H, &none, 0), memcpy(old, new, n = m);
-        m = trace_lines(points, lines), maldjupp_paint(lines, m, apart, W * H, &none, 0);
+        uint64_t steps = maldjupp_paint(new, m, fresh, W * H, &none, 0).steps;
+        memcpy(old, new, n = m), m = trace_lines(points, lines), same += maldjupp_paint(lines, m, apart, W * H, &none, 0).steps == steps;
         alike += memcmp(px, fresh, sizeof px) == 0 && memcmp(px, apart, sizeof px) == 0;
     }
     check("a trace grows: it is as painted fresh, and as lines", grown == POINTS && alike == POINTS);
+    check("its steps are those of the lines", same == POINTS);
     m = trace(2, new);
-    check("back to 2: the box around the whole of it", is(maldjupp_patch(old, n, new, m, px, W * H, &none, 0), MALDJUPP_ACCEPTED, 0, 1, 1, 23, 14));
+    struct maldjupp_reply r = maldjupp_patch(old, n, new, m, px, W * H, &none, 0);
+    /* All of the box, 22 by 13, is on the paper. One line is left, which takes one step at a pixel. */
+    check("back to 2: the box around the whole of it", is_altered(r, 1, 1, 23, 14, 286 + differing(px, paper, W * H), 286));
     memcpy(fresh, px, sizeof px), memcpy(old, new, n = m), m = trace(65, new);
     check("65 points: refused 13 at item 2",
-          is(maldjupp_patch(old, n, new, m, px, W * H, &none, 0), MALDJUPP_POINTS, 2, 0, 0, 0, 0) && memcmp(px, fresh, sizeof px) == 0);
+          is_refused(maldjupp_patch(old, n, new, m, px, W * H, &none, 0), MALDJUPP_POINTS, 2) && memcmp(px, fresh, sizeof px) == 0);
 }
 
 static int is_written(struct maldjupp_written w, uint32_t number, size_t len) { return w.number == number && w.item == 0 && w.len == len; }
@@ -292,8 +363,9 @@ static size_t end_of(const uint8_t *sheet) {
 /* Every small clip order, with a byte to spare, just enough and one too few. */
 static void orders(void) {
     enum { COUNT = 1093, LONGEST = 348, ROOM = LONGEST + 1 };
+    const uint32_t black[16] = {0};
     uint8_t sheet[ROOM], last[ROOM] = {0}, marks[ROOM];
-    uint32_t px[16];
+    uint32_t px[16] = {0};
     float none = 0;
     size_t written = 0, another = 0, painted = 0, enough = 0, refused = 0, bytes = 0;
     for (size_t i = 0; i < ROOM; i++) marks[i] = (uint8_t)(37 * i + 11);
@@ -302,14 +374,17 @@ static void orders(void) {
         size_t n = maldjupp_clip_order(k, sheet, ROOM).len;
         written += 12 <= n && n <= LONGEST && n == end_of(sheet) && memcmp(sheet + n, marks + n, ROOM - n) == 0;
         another += memcmp(sheet, last, ROOM) != 0;
-        painted += is(maldjupp_paint(sheet, n, px, 16, &none, 0), MALDJUPP_ACCEPTED, 0, 0, 0, 4, 4);
+        /* White alters a pixel once, since it covers; black ground alters those that the order before left white. */
+        uint64_t before = differing(px, black, 16);
+        struct maldjupp_reply r = maldjupp_paint(sheet, n, px, 16, &none, 0);
+        painted += is_altered(r, 0, 0, 4, 4, differing(px, black, 16), before);
         memcpy(last, sheet, ROOM), bytes += n, memcpy(sheet, marks, ROOM);
         refused += is_written(maldjupp_clip_order(k, sheet, n - 1), MALDJUPP_BUFFER, 0) && memcmp(sheet, marks, ROOM) == 0;
         enough += is_written(maldjupp_clip_order(k, sheet, n), MALDJUPP_ACCEPTED, n) && memcmp(sheet, last, ROOM) == 0;
     }
     check("1,093 clip orders are written, 189,556 bytes", written == COUNT && bytes == 189556);
     check("each is another than the one before", another == COUNT);
-    check("each is painted without scratch", painted == COUNT);
+    check("each is painted without scratch, and counted", painted == COUNT);
     check("just enough room is enough", enough == COUNT);
     check("a byte less: refused 19, the buffer unaltered", refused == COUNT);
     memcpy(sheet, marks, ROOM);
@@ -326,32 +401,38 @@ static void patches(float *scratch, size_t words) {
     static uint8_t old[MOST], new[MOST];
     static uint32_t px[W * H], fresh[W * H], before[W * H];
     size_t n = ticket(copper, 9, old), m = ticket(copper, 12, new);
-    check("painted: 0, the whole canvas", is(maldjupp_paint(old, n, px, W * H, scratch, words), MALDJUPP_ACCEPTED, 0, 0, 0, W, H));
+    check("painted: 0, the whole canvas", is_altered(maldjupp_paint(old, n, px, W * H, scratch, words), 0, 0, W, H, 308 + 25 + 18 + 10, W * H));
+    px[0] |= 0xFF000000;
+    check("once more: the same steps, paper and a byte grounded",
+          is_altered(maldjupp_paint(old, n, px, W * H, scratch, words), 0, 0, W, H, 308 + 25 + 18 + 10, 308 + 1));
     check("ground, paper, grade and bar", px[0] == 0xDEDBD2 && px[2 * W + 2] == 0xFDFCF8 && px[5 * W + 5] == copper && px[11 * W + 11] == 0x207A4E);
     check("the bar ends where it should", px[11 * W + 12] == 0xFDFCF8);
 
-    check("bar patched: its box", is(maldjupp_patch(old, n, new, m, px, W * H, scratch, words), MALDJUPP_ACCEPTED, 0, 3, 11, 15, 13));
+    check("bar patched: its box", is_altered(maldjupp_patch(old, n, new, m, px, W * H, scratch, words), 3, 11, 15, 13, 24 + 24, 24));
     maldjupp_paint(new, m, fresh, W * H, scratch, words);
     check("the pixels are those of a fresh painting", memcmp(px, fresh, sizeof px) == 0 && px[11 * W + 14] == 0x207A4E);
 
     memcpy(old, new, n = m), m = ticket(brass, 12, new);
-    check("grade patched: its box", is(maldjupp_patch(old, n, new, m, px, W * H, scratch, words), MALDJUPP_ACCEPTED, 0, 3, 3, 8, 8));
+    check("grade patched: its box", is_altered(maldjupp_patch(old, n, new, m, px, W * H, scratch, words), 3, 3, 8, 8, 25 + 25, 25));
     check("the grade is brass", px[5 * W + 5] == brass);
 
     memcpy(old, new, n = m), m = ticket(copper, 8, new);
-    check("grade and bar at once: the box around both", is(maldjupp_patch(old, n, new, m, px, W * H, scratch, words), MALDJUPP_ACCEPTED, 0, 3, 3, 15, 13));
+    check("grade and bar at once: the box around both",
+          is_altered(maldjupp_patch(old, n, new, m, px, W * H, scratch, words), 3, 3, 15, 13, 120 + 25 + 16, 120));
     maldjupp_paint(new, m, fresh, W * H, scratch, words);
     check("the pixels are those of a fresh painting", memcmp(px, fresh, sizeof px) == 0 && px[5 * W + 5] == copper);
 
     memcpy(old, new, n = m), m = ticket(brass, 12, new);
-    check("and back", is(maldjupp_patch(old, n, new, m, px, W * H, scratch, words), MALDJUPP_ACCEPTED, 0, 3, 3, 15, 13));
+    check("and back", is_altered(maldjupp_patch(old, n, new, m, px, W * H, scratch, words), 3, 3, 15, 13, 120 + 25 + 24, 120));
+    check("nothing differs: an empty box", is_altered(maldjupp_patch(new, m, new, m, px, W * H, scratch, words), 0, 0, 0, 0, 0, 0));
 
     n = pile(33, 4, old), m = pile(33, 6, new), maldjupp_paint(old, n, px, W * H, scratch, words), memcpy(before, px, sizeof px);
-    check("33 shapes at once: refused 14", is(maldjupp_patch(old, n, new, m, px, W * H, scratch, words), MALDJUPP_MANY, 0, 0, 0, 0, 0));
+    check("33 shapes at once: refused 14", is_refused(maldjupp_patch(old, n, new, m, px, W * H, scratch, words), MALDJUPP_MANY, 0));
     check("also where pixels are too few: 14 before 8", maldjupp_patch(old, n, new, m, px, 3, scratch, words).number == MALDJUPP_MANY);
     check("refused, nothing is altered", memcmp(px, before, sizeof px) == 0);
     n = pile(32, 4, old), m = pile(32, 6, new);
-    check("32 at once: the box around all", is(maldjupp_patch(old, n, new, m, px, W * H, scratch, words), MALDJUPP_ACCEPTED, 0, 2, 2, 8, 5));
+    /* The first of the 32 alters what the others leave as it is. */
+    check("32 at once: the box around all", is_altered(maldjupp_patch(old, n, new, m, px, W * H, scratch, words), 2, 2, 8, 5, 18, 12));
 }
 
 /* Patches of the ticket that are refused, and the ticket call by call. */
@@ -360,16 +441,17 @@ static void refusals(float *scratch, size_t words) {
     static uint32_t px[W * H], fresh[W * H], before[W * H];
     size_t n = ticket(brass, 12, old), m = ticket(brass, 12, new);
     maldjupp_paint(old, n, px, W * H, scratch, words), memcpy(before, px, sizeof px), new[4] ^= 1;
-    check("another ground: refused 10", is(maldjupp_patch(old, n, new, m, px, W * H, scratch, words), MALDJUPP_DIFFERENCE, 0, 0, 0, 0, 0));
+    check("another ground: refused 10", is_refused(maldjupp_patch(old, n, new, m, px, W * H, scratch, words), MALDJUPP_DIFFERENCE, 0));
     m = ticket(brass, 8193, new);
-    check("a bar of 8,193: refused 6 at item 3", is(maldjupp_patch(old, n, new, m, px, W * H, scratch, words), MALDJUPP_FLOAT, 3, 0, 0, 0, 0));
+    check("a bar of 8,193: refused 6 at item 3", is_refused(maldjupp_patch(old, n, new, m, px, W * H, scratch, words), MALDJUPP_FLOAT, 3));
     m = ticket(brass, 8, new);
-    check("11 bytes: refused 1", is(maldjupp_patch(old, n, new, 11, px, W * H, scratch, words), MALDJUPP_SHEET_LENGTH, 0, 0, 0, 0, 0));
-    check("a pixel too few: refused 8", is(maldjupp_patch(old, n, new, m, px, W * H - 1, scratch, words), MALDJUPP_PIXELS, 0, 0, 0, 0, 0));
+    check("11 bytes: refused 1", is_refused(maldjupp_patch(old, n, new, 11, px, W * H, scratch, words), MALDJUPP_SHEET_LENGTH, 0));
+    check("a pixel too few: refused 8", is_refused(maldjupp_patch(old, n, new, m, px, W * H - 1, scratch, words), MALDJUPP_PIXELS, 0));
     check("a word of scratch too few: refused 9",
-          is(maldjupp_patch(old, n, new, m, px, W * H, scratch, words - 1), MALDJUPP_SCRATCH, 0, 0, 0, 0, 0));
+          is_refused(maldjupp_patch(old, n, new, m, px, W * H, scratch, words - 1), MALDJUPP_SCRATCH, 0));
     check("refused, nothing is altered", memcmp(px, before, sizeof px) == 0);
-    check("the words measured are enough", is(maldjupp_patch(old, n, new, m, px, W * H, scratch, words), MALDJUPP_ACCEPTED, 0, 3, 11, 15, 13));
+    check("the words measured are enough",
+          is_altered(maldjupp_patch(old, n, new, m, px, W * H, scratch, words), 3, 11, 15, 13, 24 + 16, 24));
 
     maldjupp_paint(new, m, fresh, W * H, scratch, words);
     check("the ticket is drawn call by call", ticket_calls(brass, 8, scratch, words));
@@ -389,6 +471,7 @@ int main(void) {
     rooms();
     calls();
     shapes();
+    counts();
     traces();
     orders();
 

@@ -35,11 +35,18 @@ enum maldjupp_number {
     MALDJUPP_ORDER = 23        /* there is no clip order of this number: it is 1,093 or more */
 };
 
-/* An answer. The box is columns x0 up to but without x1, rows y0 up to but without y1. Refused, it is four zeros. */
+/* An answer. The box is columns x0 up to but without x1, rows y0 up to but without y1. Refused, box and counts are zeros.
+ *
+ * A step is one shape at one pixel; a polyline takes one step a line at each pixel, each line on what the one before left, so that a joint may
+ * count twice. A step alters the pixel where its value, all 32 bits, differs afterwards. `steps` is how many of the sheet's did so within the
+ * box: its shapes are drawn on its own ground, so it hangs on the sheets alone, not on what the pixels held. `grounded` is how many pixels of
+ * the box the filling with the ground altered: it hangs on what they held. */
 struct maldjupp_reply {
     uint32_t number; /* 0 where accepted, else one of the numbers above */
     uint32_t item;   /* the item, counted from 1, beside 4, 5, 6, 7 and 13; else 0 */
     int32_t x0, y0, x1, y1;
+    uint64_t steps;
+    uint64_t grounded;
 };
 
 /* A sheet, little-endian: bytes 0-1 width, 2-3 height, 4-6 ground R G B, 7 zero, 8-9 count of items, 10-11 zero; then for each item its offset
@@ -57,7 +64,7 @@ struct maldjupp_reply {
  *
  * Kinds 3 to 8 are shapes. Numbers are floats of four bytes, a colour is R G B A. A paint is its kind (that of a brush, below), three zeros, c0, c1
  * and four floats, with zero bytes for what its kind does not use. There are at most 64 points. A polyline is drawn as by maldjupp_polyline: a
- * joint is blended by both of its lines, so that with an alpha under 255 it shows. In a patch it counts whole, as one shape. */
+ * joint is blended by both of its lines, so that with an alpha under 255 it shows. Among the shapes that differ in a patch it is one. */
 
 /* What painting a sheet takes. Refused, the last three are 0. */
 struct maldjupp_room {
@@ -99,12 +106,14 @@ struct maldjupp_written maldjupp_clip_order(size_t number, uint8_t *buf, size_t 
 /* ---- The canvas, call by call
  *
  * The state of a canvas is a struct, which each call takes and returns by value, beside a number. Refused, the state that was given comes
- * back and no pixel and no scratch word is altered, so that a caller may always go on with the returned state:
+ * back and no pixel and no scratch word is altered, so that a caller may always go on with the returned state. A call that draws a shape also
+ * returns how many of its steps altered a pixel:
  *
  *     struct maldjupp_canvas c = maldjupp_new(W, H, px, W * H).canvas;
- *     struct maldjupp_done d = maldjupp_fill_circle(c, px, W * H, 30, 40, 16, maldjupp_solid(maldjupp_rgb(184, 115, 51)));
+ *     struct maldjupp_counted d = maldjupp_fill_circle(c, px, W * H, 30, 40, 16, maldjupp_solid(maldjupp_rgb(184, 115, 51)));
  *     if (d.number != MALDJUPP_ACCEPTED) ..
  *     c = d.canvas;
+ *     printf("%llu steps\n", (unsigned long long)d.steps);
  *
  * `pixels` must be width times height. Every float is finite and -8,192 to 8,192. Points are coordinates x y x y, of at most 64 points,
  * and `count` is the count of coordinates. The tests stand in the order 12, 2, 8, 13, 5, 6, 7, 9. */
@@ -143,10 +152,17 @@ struct maldjupp_canvas {
     size_t depth;
 };
 
-/* What a call returns: a number, and the state, a box or a pixel. Box and pixel are zeros beside a refusal. */
+/* What a call returns: a number, and the state, the state and a count, a box or a pixel. Count, box and pixel are zeros beside a refusal. */
 struct maldjupp_done {
     uint32_t number;
     struct maldjupp_canvas canvas;
+};
+
+/* `steps` is how many of the shape's steps altered a pixel, as in an answer: how many pixels it altered, of a polyline summed over its lines. */
+struct maldjupp_counted {
+    uint32_t number;
+    struct maldjupp_canvas canvas;
+    uint64_t steps;
 };
 
 struct maldjupp_boxed {
@@ -212,34 +228,34 @@ struct maldjupp_done maldjupp_clear(struct maldjupp_canvas canvas, uint32_t *px,
 struct maldjupp_pixel maldjupp_get(struct maldjupp_canvas canvas, const uint32_t *px, size_t pixels, int32_t x, int32_t y);
 
 /* A rectangle with round corners, a rectangle, and a circle, filled. */
-struct maldjupp_done maldjupp_fill_rrect(struct maldjupp_canvas canvas, uint32_t *px, size_t pixels, struct maldjupp_rect rect, float r,
-                                         struct maldjupp_brush brush);
-struct maldjupp_done maldjupp_fill_rect(struct maldjupp_canvas canvas, uint32_t *px, size_t pixels, struct maldjupp_rect rect,
-                                        struct maldjupp_brush brush);
-struct maldjupp_done maldjupp_fill_circle(struct maldjupp_canvas canvas, uint32_t *px, size_t pixels, float cx, float cy, float r,
-                                          struct maldjupp_brush brush);
+struct maldjupp_counted maldjupp_fill_rrect(struct maldjupp_canvas canvas, uint32_t *px, size_t pixels, struct maldjupp_rect rect, float r,
+                                            struct maldjupp_brush brush);
+struct maldjupp_counted maldjupp_fill_rect(struct maldjupp_canvas canvas, uint32_t *px, size_t pixels, struct maldjupp_rect rect,
+                                           struct maldjupp_brush brush);
+struct maldjupp_counted maldjupp_fill_circle(struct maldjupp_canvas canvas, uint32_t *px, size_t pixels, float cx, float cy, float r,
+                                             struct maldjupp_brush brush);
 
 /* The outline of a rectangle with round corners, inside its edge, and of a circle. */
-struct maldjupp_done maldjupp_stroke_rrect(struct maldjupp_canvas canvas, uint32_t *px, size_t pixels, struct maldjupp_rect rect, float r,
-                                           float width, struct maldjupp_color color);
-struct maldjupp_done maldjupp_ring(struct maldjupp_canvas canvas, uint32_t *px, size_t pixels, float cx, float cy, float r, float width,
-                                   struct maldjupp_color color);
+struct maldjupp_counted maldjupp_stroke_rrect(struct maldjupp_canvas canvas, uint32_t *px, size_t pixels, struct maldjupp_rect rect, float r,
+                                              float width, struct maldjupp_color color);
+struct maldjupp_counted maldjupp_ring(struct maldjupp_canvas canvas, uint32_t *px, size_t pixels, float cx, float cy, float r, float width,
+                                      struct maldjupp_color color);
 
 /* A line with round ends, and lines from point to point, one after the other. */
-struct maldjupp_done maldjupp_line(struct maldjupp_canvas canvas, uint32_t *px, size_t pixels, struct maldjupp_pt a, struct maldjupp_pt b,
-                                   float width, struct maldjupp_color color);
-struct maldjupp_done maldjupp_polyline(struct maldjupp_canvas canvas, uint32_t *px, size_t pixels, const float *points, size_t count,
-                                       float width, struct maldjupp_color color);
+struct maldjupp_counted maldjupp_line(struct maldjupp_canvas canvas, uint32_t *px, size_t pixels, struct maldjupp_pt a, struct maldjupp_pt b,
+                                      float width, struct maldjupp_color color);
+struct maldjupp_counted maldjupp_polyline(struct maldjupp_canvas canvas, uint32_t *px, size_t pixels, const float *points, size_t count,
+                                          float width, struct maldjupp_color color);
 
 /* A polygon, filled. With at least 3 points it needs (bw + 2) * bh + 2 words of scratch, where bw and bh are the sides of the box around
  * its points (floors of the least, ceilings of the greatest), each made 2 larger; none where bw * bh is over 4,000,000, since it is not
  * painted then. So many words are left 0. maldjupp_measure tells the same of a sheet that holds the polygon alone. */
-struct maldjupp_done maldjupp_fill_poly(struct maldjupp_canvas canvas, uint32_t *px, size_t pixels, const float *points, size_t count,
-                                        struct maldjupp_brush brush, float *scratch, size_t words);
+struct maldjupp_counted maldjupp_fill_poly(struct maldjupp_canvas canvas, uint32_t *px, size_t pixels, const float *points, size_t count,
+                                           struct maldjupp_brush brush, float *scratch, size_t words);
 
 /* The soft shadow of a rectangle with round corners; with `skip_inside` its middle, where it is darkest, is left out. */
-struct maldjupp_done maldjupp_shadow_rrect(struct maldjupp_canvas canvas, uint32_t *px, size_t pixels, struct maldjupp_rect rect, float r,
-                                           float blur, struct maldjupp_color color, bool skip_inside);
+struct maldjupp_counted maldjupp_shadow_rrect(struct maldjupp_canvas canvas, uint32_t *px, size_t pixels, struct maldjupp_rect rect, float r,
+                                              float blur, struct maldjupp_color color, bool skip_inside);
 
 #ifdef __cplusplus
 }

@@ -1,6 +1,7 @@
 /* Paints the first sheet and patches the pixels through the others: settling OUT SHEET SHEET ..
  *
- * After every patch the pixels must be those of a fresh painting. Writes start.ppm and ticket.ppm, the last, into the folder OUT.
+ * After every patch the pixels must be those of a fresh painting. Prints of each call how many steps of a shape altered a pixel, and how many
+ * pixels the ground altered. Writes start.ppm and ticket.ppm, the last, into the folder OUT.
  *
  *   cc -std=c11 -Wall -Wextra -Werror -I bindings/c bindings/c/settling.c -L target/staticlib -lmaldjupp -o settling */
 #include "maldjupp.h"
@@ -17,6 +18,9 @@ static uint32_t px[PIXELS], fresh[PIXELS];
 /* Scratch, of so many words. */
 static float *scratch;
 static size_t words;
+
+/* The steps of all patches. */
+static unsigned long long patched;
 
 /* The bytes of a file; 0 where there is none, or where it is longer than a sheet can be. */
 static size_t bytes_of(const char *name, uint8_t sheet[BYTES]) {
@@ -73,8 +77,9 @@ static int patch(const char *name, size_t *n) {
         return 1;
     }
     const char *file = strrchr(name, '/');
-    printf("patched %-16s box %3d x %3d at %3d,%3d\n", file ? file + 1 : name, r.x1 - r.x0, r.y1 - r.y0, r.x0, r.y0);
-    memcpy(old, new, *n = m);
+    printf("patched %-16s box %3d x %3d at %3d,%3d: %6llu steps, %6llu grounded\n", file ? file + 1 : name, r.x1 - r.x0, r.y1 - r.y0, r.x0,
+           r.y0, (unsigned long long)r.steps, (unsigned long long)r.grounded);
+    memcpy(old, new, *n = m), patched += r.steps;
     return 0;
 }
 
@@ -85,12 +90,14 @@ int main(int count, char **given) {
     struct maldjupp_reply r = maldjupp_paint(old, n, px, pixels < PIXELS ? pixels : PIXELS, scratch, words);
     if (r.number != MALDJUPP_ACCEPTED) return refused(given[2], r);
     struct maldjupp_room room = maldjupp_measure(old, n);
-    printf("painted %zu x %zu: %zu words of scratch, %zu clips saved at once, %llu pixels in its shapes\n", width(old), height(old), room.words,
-           room.saved, (unsigned long long)room.pixels);
+    printf("painted %zu x %zu: %zu words of scratch, %zu clips saved at once, %llu pixels in its shapes, %llu steps, %llu grounded\n",
+           width(old), height(old), room.words, room.saved, (unsigned long long)room.pixels, (unsigned long long)r.steps,
+           (unsigned long long)r.grounded);
     if (!write_ppm(given[1], "start.ppm", old)) return fprintf(stderr, "start.ppm cannot be written\n"), 1;
     for (int i = 3; i < count; i++)
         if (patch(given[i], &n) != 0) return 1;
     if (!write_ppm(given[1], "ticket.ppm", old)) return fprintf(stderr, "ticket.ppm cannot be written\n"), 1;
     printf("%d patches: after each, the pixels are those of a fresh painting\n", count - 3);
+    printf("steps that altered a pixel: %llu of the painting, %llu of all patches\n", (unsigned long long)r.steps, patched);
     return 0;
 }

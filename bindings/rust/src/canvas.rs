@@ -1,11 +1,14 @@
 //! The canvas: pixels that are drawn on call by call.
-use crate::raw::{self, Done, State};
+use crate::raw::{self, Counted, Done, State};
 use crate::{sheet, to_ppm, Color, IRect, Paint, Pt, Rect, Refusal, SheetBuilder};
 
 /// A canvas with its pixels, and kash-ui's calls. The sides are 1 to 2,048; up to 16 clips are saved at once.
 ///
 /// A call that the library refuses returns why, and the canvas stays as it was: every float must be finite and -8,192 to 8,192, and a
 /// polygon or polyline has at most 64 points.
+///
+/// A call that draws a shape returns how many pixels it altered: those whose value, all 32 bits, differs afterwards. A polyline returns the
+/// sum over its lines, each drawn on what the one before left, so that a joint may count twice.
 ///
 /// ```
 /// use maldjupp::{Canvas, Color, IRect, Paint, Pt, Rect, Refusal};
@@ -18,6 +21,9 @@ use crate::{sheet, to_ppm, Color, IRect, Paint, Pt, Rect, Refusal, SheetBuilder}
 /// canvas.pop_clip()?;
 /// assert_eq!((canvas.get(0, 0), canvas.get(70, 21)), (0x00DE_DBD2, 0));
 ///
+/// let bar = Rect::new(100.0, 10.0, 5.0, 4.0);
+/// assert_eq!(canvas.fill_rect(bar, Color::BLACK)?, 20);
+/// assert_eq!(canvas.fill_rect(bar, Color::BLACK)?, 0);
 /// assert_eq!(canvas.ring(30.0, f32::NAN, 16.0, 2.0, Color::BLACK), Err(Refusal::Float));
 /// # Ok::<(), Refusal>(())
 /// ```
@@ -36,6 +42,10 @@ fn pixels(w: i32, h: i32) -> usize {
 
 fn state(done: Done) -> Result<State, Refusal> {
     Refusal::of(done.number).map_or(Ok(done.state), Err)
+}
+
+fn counted(drawn: Counted) -> Result<(State, u64), Refusal> {
+    Refusal::of(drawn.number).map_or(Ok((drawn.state, drawn.steps)), Err)
 }
 
 /// The scratch words that a polygon needs, asked of a sheet that holds it alone; 0 where there is no such sheet.
@@ -100,56 +110,58 @@ impl Canvas {
     }
 
     /// Fills a rectangle.
-    pub fn fill_rect(&mut self, rect: Rect, paint: impl Into<Paint>) -> Result<(), Refusal> {
-        self.on(|state, px| state.fill_rect(px, rect, paint.into().into()))
+    pub fn fill_rect(&mut self, rect: Rect, paint: impl Into<Paint>) -> Result<u64, Refusal> {
+        self.draw(|state, px| state.fill_rect(px, rect, paint.into().into()))
     }
 
     /// Fills a rectangle with rounded corners.
-    pub fn fill_rrect(&mut self, rect: Rect, r: f32, paint: impl Into<Paint>) -> Result<(), Refusal> {
-        self.on(|state, px| state.fill_rrect(px, rect, r, paint.into().into()))
+    pub fn fill_rrect(&mut self, rect: Rect, r: f32, paint: impl Into<Paint>) -> Result<u64, Refusal> {
+        self.draw(|state, px| state.fill_rrect(px, rect, r, paint.into().into()))
     }
 
     /// Fills a circle. The square around it may pass 8,192.
-    pub fn fill_circle(&mut self, cx: f32, cy: f32, r: f32, paint: impl Into<Paint>) -> Result<(), Refusal> {
-        self.on(|state, px| state.fill_circle(px, cx, cy, r, paint.into().into()))
+    pub fn fill_circle(&mut self, cx: f32, cy: f32, r: f32, paint: impl Into<Paint>) -> Result<u64, Refusal> {
+        self.draw(|state, px| state.fill_circle(px, cx, cy, r, paint.into().into()))
     }
 
     /// Draws the rim of a rectangle with rounded corners.
-    pub fn stroke_rrect(&mut self, rect: Rect, r: f32, width: f32, color: Color) -> Result<(), Refusal> {
-        self.on(|state, px| state.stroke_rrect(px, rect, r, width, color))
+    pub fn stroke_rrect(&mut self, rect: Rect, r: f32, width: f32, color: Color) -> Result<u64, Refusal> {
+        self.draw(|state, px| state.stroke_rrect(px, rect, r, width, color))
     }
 
     /// Draws a ring. The square around it may pass 8,192.
-    pub fn ring(&mut self, cx: f32, cy: f32, r: f32, width: f32, color: Color) -> Result<(), Refusal> {
-        self.on(|state, px| state.ring(px, cx, cy, r, width, color))
+    pub fn ring(&mut self, cx: f32, cy: f32, r: f32, width: f32, color: Color) -> Result<u64, Refusal> {
+        self.draw(|state, px| state.ring(px, cx, cy, r, width, color))
     }
 
     /// Draws a line with round ends.
-    pub fn line(&mut self, a: Pt, b: Pt, width: f32, color: Color) -> Result<(), Refusal> {
-        self.on(|state, px| state.line(px, a, b, width, color))
+    pub fn line(&mut self, a: Pt, b: Pt, width: f32, color: Color) -> Result<u64, Refusal> {
+        self.draw(|state, px| state.line(px, a, b, width, color))
     }
 
-    /// Draws lines from point to point, one after the other, of at most 64 points. A joint is blended by both of its lines.
-    pub fn polyline(&mut self, points: &[Pt], width: f32, color: Color) -> Result<(), Refusal> {
-        self.on(|state, px| state.polyline(px, points, width, color))
+    /// Draws lines from point to point, one after the other, of at most 64 points. A joint is blended by both of its lines, and may count
+    /// for both.
+    pub fn polyline(&mut self, points: &[Pt], width: f32, color: Color) -> Result<u64, Refusal> {
+        self.draw(|state, px| state.polyline(px, points, width, color))
     }
 
     /// Fills a polygon of at most 64 points.
-    pub fn fill_poly(&mut self, points: &[Pt], paint: impl Into<Paint>) -> Result<(), Refusal> {
+    pub fn fill_poly(&mut self, points: &[Pt], paint: impl Into<Paint>) -> Result<u64, Refusal> {
         let paint = paint.into();
-        let mut draw = |scratch: &mut [f32]| state(self.state.fill_poly(&mut self.px, points, paint.into(), scratch));
+        let mut draw = |scratch: &mut [f32]| counted(self.state.fill_poly(&mut self.px, points, paint.into(), scratch));
         let mut drawn = draw(&mut self.scratch);
         if drawn == Err(Refusal::Scratch) {
             self.scratch.resize(words(points, paint), 0.0);
             drawn = draw(&mut self.scratch);
         }
-        self.state = drawn?;
-        Ok(())
+        let (state, steps) = drawn?;
+        self.state = state;
+        Ok(steps)
     }
 
     /// Draws a soft shadow.
-    pub fn shadow_rrect(&mut self, rect: Rect, r: f32, blur: f32, color: Color, skip_inside: bool) -> Result<(), Refusal> {
-        self.on(|state, px| state.shadow_rrect(px, rect, r, blur, color, skip_inside))
+    pub fn shadow_rrect(&mut self, rect: Rect, r: f32, blur: f32, color: Color, skip_inside: bool) -> Result<u64, Refusal> {
+        self.draw(|state, px| state.shadow_rrect(px, rect, r, blur, color, skip_inside))
     }
 
     /// The pixels, row by row, each 0x00RRGGBB.
@@ -176,6 +188,12 @@ impl Canvas {
         self.state = state(call(self.state, &mut self.px))?;
         Ok(())
     }
+
+    fn draw(&mut self, call: impl FnOnce(State, &mut [u32]) -> Counted) -> Result<u64, Refusal> {
+        let (state, steps) = counted(call(self.state, &mut self.px))?;
+        self.state = state;
+        Ok(steps)
+    }
 }
 
 #[cfg(test)]
@@ -188,15 +206,17 @@ mod tests {
         [Pt::default(), Pt::new(side, 0.0), Pt::new(0.0, side)]
     }
 
-    /// Scratch grows to what the polygon needs, and only where what is held is refused.
+    /// Scratch grows to what the polygon needs, and only where what is held is refused. Row by row, the pixels altered are one fewer, the
+    /// last covered by half.
     #[test]
     fn scratch_grows_with_the_polygon() {
         let mut canvas = Canvas::new(40, 30).unwrap();
-        for (side, held) in [(4.0, 50), (3.0, 50), (20.0, 530), (4.0, 530), (1996.0, 2000 * 1998 + 2)] {
+        let cases = [(4.0, 50, 10), (3.0, 50, 6), (20.0, 530, 210), (4.0, 530, 10), (1996.0, 2000 * 1998 + 2, 40 * 30)];
+        for (side, held, steps) in cases {
             let mut b = SheetBuilder::new(40, 30, Color::BLACK).unwrap();
             b.fill_poly(&corner(side), Color::WHITE).unwrap();
             canvas.clear(Color::BLACK).unwrap();
-            assert_eq!(canvas.fill_poly(&corner(side), Color::WHITE), Ok(()));
+            assert_eq!(canvas.fill_poly(&corner(side), Color::WHITE), Ok(steps));
             assert_eq!((canvas.scratch.len(), canvas.px()), (held, Ticket::paint(&b).unwrap().px()));
             assert_eq!(canvas.get(0, 0), 0xFF_FFFF);
         }
@@ -206,8 +226,8 @@ mod tests {
     #[test]
     fn scratch_stays_where_none_is_needed() {
         let mut canvas = Canvas::new(40, 30).unwrap();
-        assert_eq!(canvas.fill_poly(&corner(4.0)[..2], Color::WHITE), Ok(()));
-        assert_eq!(canvas.fill_poly(&corner(8000.0), Color::WHITE), Ok(()));
+        assert_eq!(canvas.fill_poly(&corner(4.0)[..2], Color::WHITE), Ok(0));
+        assert_eq!(canvas.fill_poly(&corner(8000.0), Color::WHITE), Ok(0));
         assert_eq!(canvas.fill_poly(&corner(9000.0), Color::WHITE), Err(Refusal::Float));
         assert_eq!(canvas.fill_poly(&[Pt::default(); 65], Color::WHITE), Err(Refusal::Points));
         let paint = Paint::VGrad { y0: f32::NAN, y1: 9.0, c0: Color::WHITE, c1: Color::BLACK };

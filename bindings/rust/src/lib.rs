@@ -1,7 +1,7 @@
 //! Weighbridge tickets as pictures: a sheet of shapes is built, painted and patched by the proved static library `maldjupp`.
 //!
 //! ```
-//! use maldjupp::{Color, IRect, Rect, Refusal, Shape, SheetBuilder, Ticket};
+//! use maldjupp::{Altered, Color, IRect, Rect, Refusal, Shape, SheetBuilder, Ticket};
 //!
 //! let red = Color::rgb(255, 0, 0);
 //! let mut b = SheetBuilder::new(4, 1, Color::BLACK)?;
@@ -9,8 +9,9 @@
 //! let mut ticket = Ticket::paint(&b)?;
 //! assert_eq!(ticket.px(), [0x00FF0000, 0, 0, 0]);
 //!
+//! // The patch fills a box with the ground, which alters one pixel, and draws the bar in it, which alters another.
 //! let altered = ticket.replace(bar, Shape::fill_rect(Rect::new(2.0, 0.0, 1.0, 1.0), red))?;
-//! assert_eq!(altered, IRect::new(0, 0, 3, 1));
+//! assert_eq!(altered, Altered { area: IRect::new(0, 0, 3, 1), steps: 1, grounded: 1 });
 //! assert_eq!(ticket.px(), [0, 0, 0x00FF0000, 0]);
 //!
 //! // What the library refuses alters nothing. Here: bytes that are no sheet.
@@ -21,7 +22,7 @@
 //! # Ok::<(), Box<dyn std::error::Error>>(())
 //! ```
 //!
-//! A program that draws call by call has a [`Canvas`] with the same calls. Its pixels are those of the sheet:
+//! A program that draws call by call has a [`Canvas`] with the same calls. Its pixels and counts are those of the sheet:
 //!
 //! ```
 //! use maldjupp::{Canvas, Color, Rect, SheetBuilder, Ticket};
@@ -29,11 +30,12 @@
 //! let (area, copper) = (Rect::new(1.5, 0.5, 4.0, 2.0), Color::rgb(184, 115, 51));
 //! let mut canvas = Canvas::new(8, 3)?;
 //! canvas.clear(Color::WHITE)?;
-//! canvas.fill_rrect(area, 1.0, copper)?;
+//! let steps = canvas.fill_rrect(area, 1.0, copper)?;
 //!
 //! let mut b = SheetBuilder::new(8, 3, Color::WHITE)?;
 //! b.fill_rrect(area, 1.0, copper)?;
-//! assert_eq!(canvas.px(), Ticket::paint(&b)?.px());
+//! let ticket = Ticket::paint(&b)?;
+//! assert_eq!((canvas.px(), steps), (ticket.px(), ticket.altered().steps));
 //! # Ok::<(), Box<dyn std::error::Error>>(())
 //! ```
 //!
@@ -60,5 +62,5 @@ pub use measure::{room, Room};
 pub use orders::{clip_order, clip_orders, ClipOrders, LONGEST_CLIP_ORDER};
 pub use refusal::{Error, Refusal, Refused, SheetError};
 pub use sheet::{Shape, SheetBuilder};
-pub use ticket::{to_ppm, Ticket};
+pub use ticket::{to_ppm, Altered, Ticket};
 pub use values::{Color, IRect, Paint, Pt, Rect};

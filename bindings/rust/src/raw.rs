@@ -1,12 +1,14 @@
 //! The functions of the static library, on slices. The only unsafe code is here.
 use crate::{Color, IRect, Paint, Pt, Rect};
 
-/// A number, the item that it names, and a box.
+/// A number, the item that it names, a box, and what was altered in it: steps of shapes, and pixels by the ground.
 #[repr(C)]
 pub struct Reply {
     pub number: u32,
     pub item: u32,
     pub area: IRect,
+    pub steps: u64,
+    pub grounded: u64,
 }
 
 /// A number, the item that it names, and what painting a sheet takes: scratch words, saved clips and pixels.
@@ -43,6 +45,14 @@ pub struct State {
 pub struct Done {
     pub number: u32,
     pub state: State,
+}
+
+/// A number, the state after a shape, and how many of its steps altered a pixel.
+#[repr(C)]
+pub struct Counted {
+    pub number: u32,
+    pub state: State,
+    pub steps: u64,
 }
 
 /// A number and a box.
@@ -103,12 +113,12 @@ extern "C" {
     fn maldjupp_pop_clip(canvas: State) -> Done;
     fn maldjupp_clear(canvas: State, px: *mut u32, pixels: usize, color: Color) -> Done;
     fn maldjupp_get(canvas: State, px: *const u32, pixels: usize, x: i32, y: i32) -> Pixel;
-    fn maldjupp_fill_rrect(canvas: State, px: *mut u32, pixels: usize, rect: Rect, r: f32, brush: Brush) -> Done;
-    fn maldjupp_fill_rect(canvas: State, px: *mut u32, pixels: usize, rect: Rect, brush: Brush) -> Done;
-    fn maldjupp_fill_circle(canvas: State, px: *mut u32, pixels: usize, cx: f32, cy: f32, r: f32, brush: Brush) -> Done;
-    fn maldjupp_stroke_rrect(canvas: State, px: *mut u32, pixels: usize, rect: Rect, r: f32, width: f32, color: Color) -> Done;
-    fn maldjupp_ring(canvas: State, px: *mut u32, pixels: usize, cx: f32, cy: f32, r: f32, width: f32, color: Color) -> Done;
-    fn maldjupp_line(canvas: State, px: *mut u32, pixels: usize, a: Pt, b: Pt, width: f32, color: Color) -> Done;
+    fn maldjupp_fill_rrect(canvas: State, px: *mut u32, pixels: usize, rect: Rect, r: f32, brush: Brush) -> Counted;
+    fn maldjupp_fill_rect(canvas: State, px: *mut u32, pixels: usize, rect: Rect, brush: Brush) -> Counted;
+    fn maldjupp_fill_circle(canvas: State, px: *mut u32, pixels: usize, cx: f32, cy: f32, r: f32, brush: Brush) -> Counted;
+    fn maldjupp_stroke_rrect(canvas: State, px: *mut u32, pixels: usize, rect: Rect, r: f32, width: f32, color: Color) -> Counted;
+    fn maldjupp_ring(canvas: State, px: *mut u32, pixels: usize, cx: f32, cy: f32, r: f32, width: f32, color: Color) -> Counted;
+    fn maldjupp_line(canvas: State, px: *mut u32, pixels: usize, a: Pt, b: Pt, width: f32, color: Color) -> Counted;
     fn maldjupp_polyline(
         canvas: State,
         px: *mut u32,
@@ -117,7 +127,7 @@ extern "C" {
         coordinates: usize,
         width: f32,
         color: Color,
-    ) -> Done;
+    ) -> Counted;
     fn maldjupp_fill_poly(
         canvas: State,
         px: *mut u32,
@@ -127,7 +137,7 @@ extern "C" {
         brush: Brush,
         scratch: *mut f32,
         words: usize,
-    ) -> Done;
+    ) -> Counted;
     fn maldjupp_shadow_rrect(
         canvas: State,
         px: *mut u32,
@@ -137,7 +147,7 @@ extern "C" {
         blur: f32,
         color: Color,
         skip_inside: bool,
-    ) -> Done;
+    ) -> Counted;
 }
 
 // SAFETY, of every call below: each pointer comes with the length of its slice, and a point is two floats, x and y, without a gap. The
@@ -212,35 +222,35 @@ impl State {
         unsafe { maldjupp_get(self, px.as_ptr(), px.len(), x, y) }
     }
 
-    pub fn fill_rrect(self, px: &mut [u32], rect: Rect, r: f32, brush: Brush) -> Done {
+    pub fn fill_rrect(self, px: &mut [u32], rect: Rect, r: f32, brush: Brush) -> Counted {
         unsafe { maldjupp_fill_rrect(self, px.as_mut_ptr(), px.len(), rect, r, brush) }
     }
 
-    pub fn fill_rect(self, px: &mut [u32], rect: Rect, brush: Brush) -> Done {
+    pub fn fill_rect(self, px: &mut [u32], rect: Rect, brush: Brush) -> Counted {
         unsafe { maldjupp_fill_rect(self, px.as_mut_ptr(), px.len(), rect, brush) }
     }
 
-    pub fn fill_circle(self, px: &mut [u32], cx: f32, cy: f32, r: f32, brush: Brush) -> Done {
+    pub fn fill_circle(self, px: &mut [u32], cx: f32, cy: f32, r: f32, brush: Brush) -> Counted {
         unsafe { maldjupp_fill_circle(self, px.as_mut_ptr(), px.len(), cx, cy, r, brush) }
     }
 
-    pub fn stroke_rrect(self, px: &mut [u32], rect: Rect, r: f32, width: f32, color: Color) -> Done {
+    pub fn stroke_rrect(self, px: &mut [u32], rect: Rect, r: f32, width: f32, color: Color) -> Counted {
         unsafe { maldjupp_stroke_rrect(self, px.as_mut_ptr(), px.len(), rect, r, width, color) }
     }
 
-    pub fn ring(self, px: &mut [u32], cx: f32, cy: f32, r: f32, width: f32, color: Color) -> Done {
+    pub fn ring(self, px: &mut [u32], cx: f32, cy: f32, r: f32, width: f32, color: Color) -> Counted {
         unsafe { maldjupp_ring(self, px.as_mut_ptr(), px.len(), cx, cy, r, width, color) }
     }
 
-    pub fn line(self, px: &mut [u32], a: Pt, b: Pt, width: f32, color: Color) -> Done {
+    pub fn line(self, px: &mut [u32], a: Pt, b: Pt, width: f32, color: Color) -> Counted {
         unsafe { maldjupp_line(self, px.as_mut_ptr(), px.len(), a, b, width, color) }
     }
 
-    pub fn polyline(self, px: &mut [u32], points: &[Pt], width: f32, color: Color) -> Done {
+    pub fn polyline(self, px: &mut [u32], points: &[Pt], width: f32, color: Color) -> Counted {
         unsafe { maldjupp_polyline(self, px.as_mut_ptr(), px.len(), points.as_ptr().cast(), 2 * points.len(), width, color) }
     }
 
-    pub fn fill_poly(self, px: &mut [u32], points: &[Pt], brush: Brush, scratch: &mut [f32]) -> Done {
+    pub fn fill_poly(self, px: &mut [u32], points: &[Pt], brush: Brush, scratch: &mut [f32]) -> Counted {
         unsafe {
             maldjupp_fill_poly(
                 self,
@@ -255,7 +265,7 @@ impl State {
         }
     }
 
-    pub fn shadow_rrect(self, px: &mut [u32], rect: Rect, r: f32, blur: f32, color: Color, skip_inside: bool) -> Done {
+    pub fn shadow_rrect(self, px: &mut [u32], rect: Rect, r: f32, blur: f32, color: Color, skip_inside: bool) -> Counted {
         unsafe { maldjupp_shadow_rrect(self, px.as_mut_ptr(), px.len(), rect, r, blur, color, skip_inside) }
     }
 }
@@ -263,6 +273,7 @@ impl State {
 #[cfg(test)]
 mod tests {
     use super::*;
+    use std::mem::{offset_of, size_of};
 
     const AREA: IRect = IRect::new(-1, 2, 3, -4);
 
@@ -272,17 +283,20 @@ mod tests {
         State { w: 7, h: 9, clip: AREA, saved, depth: 1 << 40 }
     }
 
-    /// Each field of a state comes back as it was given, and the number beside it.
+    /// Each field of a state comes back as it was given, and the number beside it; beside a shape's, no step.
     #[test]
     fn a_refused_state_comes_back() {
         let px = &mut [5; 4];
         let (rect, pt, brush) = (Rect::new(0.0, 0.0, 2.0, 2.0), Pt::new(1.0, 1.0), Brush::from(Paint::Solid(Color::WHITE)));
-        let all = [
+        let others = [
             odd().resize(2, 2, px),
             odd().push_clip(rect),
             odd().push_clip_i(AREA),
             odd().pop_clip(),
             odd().clear(px, Color::WHITE),
+        ];
+        assert!(others.iter().all(|done| done.number == 12 && done.state == odd()));
+        let shapes = [
             odd().fill_rrect(px, rect, 1.0, brush),
             odd().fill_rect(px, rect, brush),
             odd().fill_circle(px, 1.0, 1.0, 1.0, brush),
@@ -293,7 +307,7 @@ mod tests {
             odd().fill_poly(px, &[pt; 3], brush, &mut [0.0; 99]),
             odd().shadow_rrect(px, rect, 1.0, 1.0, Color::WHITE, false),
         ];
-        assert!(all.iter().all(|done| done.number == 12 && done.state == odd()));
+        assert!(shapes.iter().all(|drawn| drawn.number == 12 && drawn.state == odd() && drawn.steps == 0));
         assert_eq!((odd().bounds().number, odd().clip().number, odd().get(px, 0, 0).number), (12, 12, 12));
         assert_eq!(*px, [5; 4]);
     }
@@ -315,9 +329,31 @@ mod tests {
                 state.fill_circle(px, f32::NAN, 0.0, 1.0, brush),
                 state.fill_poly(px, &points[..64], brush, &mut []),
             ];
-            assert!(fives.iter().all(|done| done.number == 5 && done.state == state));
+            assert!(fives.iter().all(|drawn| drawn.number == 5 && drawn.state == state && drawn.steps == 0));
         }
         assert_eq!(*px, [0; 4]);
+    }
+
+    /// The fields of the answers with counts stand where the library puts them.
+    #[test]
+    fn the_answers_have_their_places() {
+        let reply = [offset_of!(Reply, area), offset_of!(Reply, steps), offset_of!(Reply, grounded), size_of::<Reply>()];
+        assert_eq!(reply, [8, 24, 32, 40]);
+        assert_eq!([offset_of!(Counted, state), offset_of!(Counted, steps), size_of::<Counted>()], [8, 296, 304]);
+    }
+
+    /// A shape counts the words that differ, also where the uppermost byte alone does.
+    #[test]
+    fn a_shape_counts_whole_words() {
+        let held = [0x00FF_FFFF, 0xFFFF_FFFF, 0x01FF_FFFF, 0x00FF_FFFE];
+        let state = State::blank(2, 2, &mut held.clone()).state;
+        let (all, white) = (Rect::new(-1.0, -1.0, 9.0, 9.0), |a| Brush::from(Paint::Solid(Color::rgba(255, 255, 255, a))));
+        for (alpha, steps) in [(255, 3), (0, 0)] {
+            let px = &mut held.clone();
+            let drawn = state.fill_rect(px, all, white(alpha));
+            assert_eq!((drawn.number, drawn.steps, *px), (0, steps, if steps == 0 { held } else { [0x00FF_FFFF; 4] }));
+            assert_eq!((state.fill_rect(px, all, white(alpha)).steps, drawn.state), (0, state));
+        }
     }
 
     /// What a kind does not use is not read.

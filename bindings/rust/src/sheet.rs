@@ -75,8 +75,9 @@ pub enum Shape {
     },
     /// Lines with round ends from point to point, one after the other; none under two points.
     ///
-    /// A joint is blended by both of its lines, so that with an alpha under 255 it shows. The box of a patch is around the whole polyline,
-    /// old and new, however little of it differs. A [`Shape::Line`] for each line gives the same pixels and smaller boxes.
+    /// A joint is blended by both of its lines, so that with an alpha under 255 it shows; it takes a step for each. The box of a patch is
+    /// around the whole polyline, old and new, however little of it differs. A [`Shape::Line`] for each line gives the same pixels, in a
+    /// painting as many steps, and in a patch smaller boxes.
     ///
     /// ```
     /// use maldjupp::{Color, IRect, Pt, Shape, SheetBuilder, Ticket};
@@ -85,8 +86,8 @@ pub enum Shape {
     /// let mut b = SheetBuilder::new(40, 40, Color::WHITE)?;
     /// let index = b.add(&trace(1))?;
     /// let mut ticket = Ticket::paint(&b)?;
-    /// assert_eq!(ticket.replace(index, trace(2))?, IRect::new(2, 7, 14, 32));
-    /// assert_eq!(ticket.replace(index, trace(3))?, IRect::new(2, 7, 22, 32));
+    /// assert_eq!(ticket.replace(index, trace(2))?.area, IRect::new(2, 7, 14, 32));
+    /// assert_eq!(ticket.replace(index, trace(3))?.area, IRect::new(2, 7, 22, 32));
     /// # Ok::<(), Box<dyn std::error::Error>>(())
     /// ```
     Polyline {

@@ -4,18 +4,21 @@ use crate::{raw, sheet, Error, IRect, Refusal, Refused, Shape, SheetBuilder, She
 /// A painted sheet with its pixels. They are always those of its sheet, whatever was edited or refused before.
 ///
 /// ```
-/// use maldjupp::{Color, IRect, Rect, Shape, SheetBuilder, Ticket};
+/// use maldjupp::{Altered, Color, IRect, Rect, Shape, SheetBuilder, Ticket};
 /// let bar = |kg: f32| Shape::fill_rect(Rect::new(10.0, 20.0, kg / 400.0, 6.0), Color::rgb(32, 122, 78));
 /// let mut b = SheetBuilder::new(120, 80, Color::WHITE)?;
 /// let net = b.add(&bar(18_000.0))?;
 /// let mut ticket = Ticket::paint(&b)?;
-/// assert_eq!(ticket.replace(net, bar(18_220.0))?, IRect::new(10, 20, 56, 26));
+/// // The bar is 45 columns of 6 pixels; the painting grounds every pixel, since they are 0 before it.
+/// assert_eq!(ticket.altered(), Altered { area: IRect::new(0, 0, 120, 80), steps: 45 * 6, grounded: 120 * 80 });
+/// // The new one reaches into a 46th column.
+/// assert_eq!(ticket.replace(net, bar(18_220.0))?, Altered { area: IRect::new(10, 20, 56, 26), steps: 46 * 6, grounded: 45 * 6 });
 /// // The same, drawn from the start: the library finds the shapes that differ.
 /// let altered = ticket.edit(|b| {
 ///     b.clear();
 ///     b.add(&bar(18_400.0))
 /// })?;
-/// assert_eq!(altered, IRect::new(10, 20, 56, 26));
+/// assert_eq!(altered, Altered { area: IRect::new(10, 20, 56, 26), steps: 46 * 6, grounded: 46 * 6 });
 /// # Ok::<(), Box<dyn std::error::Error>>(())
 /// ```
 #[derive(Clone, Debug)]
@@ -23,10 +26,25 @@ pub struct Ticket {
     sheet: Vec<u8>,
     px: Vec<u32>,
     scratch: Vec<f32>,
+    altered: Altered,
 }
 
-fn answer(reply: raw::Reply) -> Result<IRect, Refused> {
-    Refused::of(reply.number, reply.item).map_or(Ok(reply.area), Err)
+/// What an accepted painting or patch altered: where, and how busy it was.
+#[derive(Clone, Copy, Debug, PartialEq, Eq, Default)]
+pub struct Altered {
+    /// The box outside which no pixel was altered: of a painting the whole canvas, of a patch the smallest around the shapes that differ.
+    pub area: IRect,
+    /// How many steps altered a pixel of the box. A step is one shape of the sheet at one pixel; a polyline takes one step a line at each
+    /// pixel, each line on what the one before left, so that a joint may count twice. It alters the pixel where its value, all 32 bits,
+    /// differs afterwards. The shapes are drawn on the sheet's own ground: this hangs on the sheets alone, not on what the pixels held.
+    pub steps: u64,
+    /// How many pixels of the box the filling with the ground altered, by their value too: this hangs on what the pixels held. Before its
+    /// painting a ticket's pixels are 0, so that painting a black ground alters none, and any other all of them.
+    pub grounded: u64,
+}
+
+fn answer(raw::Reply { number, item, area, steps, grounded }: raw::Reply) -> Result<Altered, Refused> {
+    Refused::of(number, item).map_or(Ok(Altered { area, steps, grounded }), Err)
 }
 
 impl Ticket {
@@ -39,13 +57,13 @@ impl Ticket {
     pub fn from_bytes(sheet: Vec<u8>) -> Result<Ticket, Refused> {
         let mut px = vec![0; sheet::pixels(&sheet)];
         let mut scratch = vec![0.0; raw::measure(&sheet).words];
-        answer(raw::paint(&sheet, &mut px, &mut scratch))?;
-        Ok(Ticket { sheet, px, scratch })
+        let altered = answer(raw::paint(&sheet, &mut px, &mut scratch))?;
+        Ok(Ticket { sheet, px, scratch, altered })
     }
 
-    /// Patches the ticket to a new sheet, which may be any bytes, and returns the box outside which no pixel was altered: the smallest
-    /// around the shapes that differ, of which there may be up to 32. Refused, the ticket stays as it is.
-    pub fn patch(&mut self, new: Vec<u8>) -> Result<IRect, Refused> {
+    /// Patches the ticket to a new sheet, which may be any bytes, and returns what was altered. Up to 32 shapes may differ. Refused, the
+    /// ticket stays as it is.
+    pub fn patch(&mut self, new: Vec<u8>) -> Result<Altered, Refused> {
         let mut patch = |scratch: &mut [f32]| answer(raw::patch(&self.sheet, &new, &mut self.px, scratch));
         let mut altered = patch(&mut self.scratch);
         // A patch that is refused alters nothing, so it can be tried again with what the new sheet needs.
@@ -53,9 +71,9 @@ impl Ticket {
             self.scratch.resize(raw::measure(&new).words, 0.0);
             altered = patch(&mut self.scratch);
         }
-        let altered = altered?;
+        self.altered = altered?;
         self.sheet = new;
-        Ok(altered)
+        Ok(self.altered)
     }
 
     /// Alters the sheet by calls of a builder that holds it, and patches the ticket to it, up to 32 shapes at once. Where a call fails,
@@ -74,18 +92,25 @@ impl Ticket {
     ///     b.replace(tare, &bar(30.0, 13_240.0))?;
     ///     b.replace(grade, &patch(Color::rgb(184, 115, 51)))
     /// })?;
-    /// assert_eq!(altered, IRect::new(10, 20, 119, 40));
+    /// assert_eq!(altered.area, IRect::new(10, 20, 119, 40));
+    /// // The new bars reach into 79 and 34 columns of 6 pixels; the old ones into 79 and none.
+    /// assert_eq!((altered.steps, altered.grounded), (79 * 6 + 34 * 6 + 20 * 20, 79 * 6 + 20 * 20));
     /// # Ok::<(), Box<dyn std::error::Error>>(())
     /// ```
-    pub fn edit<T>(&mut self, alter: impl FnOnce(&mut SheetBuilder) -> Result<T, SheetError>) -> Result<IRect, Error> {
+    pub fn edit<T>(&mut self, alter: impl FnOnce(&mut SheetBuilder) -> Result<T, SheetError>) -> Result<Altered, Error> {
         let mut builder = self.builder();
         alter(&mut builder)?;
         Ok(self.patch(builder.bytes())?)
     }
 
     /// Puts a shape in the place of the shape of an index, counted from 0.
-    pub fn replace(&mut self, index: usize, shape: Shape) -> Result<IRect, Error> {
+    pub fn replace(&mut self, index: usize, shape: Shape) -> Result<Altered, Error> {
         self.edit(|b| b.replace(index, &shape))
+    }
+
+    /// What the call accepted last altered: the painting at first, then each patch that is accepted.
+    pub fn altered(&self) -> Altered {
+        self.altered
     }
 
     /// A builder that holds the ticket's sheet.
@@ -130,14 +155,16 @@ pub fn to_ppm(width: usize, px: &[u32]) -> Vec<u8> {
 #[cfg(test)]
 mod tests {
     use super::*;
-    use crate::{Color, Pt};
+    use crate::{Color, Pt, Rect};
 
     #[test]
     fn wrong_pixels_are_refused() {
         let sheet = SheetBuilder::new(4, 1, Color::BLACK).unwrap().bytes();
         let reply = raw::paint(&sheet, &mut [0; 3], &mut []);
         assert_eq!(answer(reply), Err(Refused { refusal: Refusal::Pixels, item: 0 }));
-        assert_eq!(answer(raw::paint(&sheet, &mut [0; 4], &mut [])), Ok(IRect::new(0, 0, 4, 1)));
+        let whole = Altered { area: IRect::new(0, 0, 4, 1), steps: 0, grounded: 0 };
+        assert_eq!(answer(raw::paint(&sheet, &mut [0; 4], &mut [])), Ok(whole));
+        assert_eq!(answer(raw::paint(&sheet, &mut [0, 1, 1 << 24, 0], &mut [])), Ok(Altered { grounded: 2, ..whole }));
     }
 
     /// A ticket lends what the library tells of its sheet, and more for a patch to a larger polygon. A refused patch alters nothing.
@@ -149,10 +176,12 @@ mod tests {
         b.add(&corner(4.0)).unwrap();
         let mut ticket = Ticket::paint(&b).unwrap();
         assert_eq!((ticket.scratch.len(), words(&ticket)), (50, 50));
-        assert_eq!(ticket.replace(0, corner(20.0)), Ok(IRect::new(0, 0, 21, 21)));
+        // Of sides 4, 20 and 3, row by row one pixel fewer, the last covered by half: 10, 210 and 6.
+        let area = IRect::new(0, 0, 21, 21);
+        assert_eq!(ticket.replace(0, corner(20.0)), Ok(Altered { area, steps: 210, grounded: 10 }));
         assert_eq!((ticket.scratch.len(), words(&ticket)), (530, 530));
         assert_eq!(ticket.px(), Ticket::paint(&ticket.builder()).unwrap().px());
-        assert_eq!(ticket.replace(0, corner(3.0)), Ok(IRect::new(0, 0, 21, 21)));
+        assert_eq!(ticket.replace(0, corner(3.0)), Ok(Altered { area, steps: 6, grounded: 210 }));
         assert_eq!((ticket.scratch.len(), words(&ticket)), (530, 37));
 
         b.add(&corner(30.0)).unwrap();
@@ -161,6 +190,68 @@ mod tests {
         let end = bad.len() - 4;
         bad[end..].copy_from_slice(&f32::NAN.to_le_bytes());
         assert_eq!(ticket.patch(bad), Err(Refused { refusal: Refusal::Float, item: 2 }));
-        assert_eq!((ticket.px(), ticket.sheet()), (before.px(), before.sheet()));
+        assert_eq!((ticket.px(), ticket.sheet(), ticket.altered()), (before.px(), before.sheet(), before.altered()));
+    }
+
+    const GROUND: u32 = 0x00DE_DBD2;
+
+    /// Shapes of several kinds under a clip, with a bar of a length.
+    fn several(bar: f32) -> Vec<u8> {
+        let mut b = SheetBuilder::new(24, 16, Color::hex(GROUND)).unwrap();
+        b.fill_rrect(Rect::new(1.0, 1.0, 20.5, 13.0), 3.0, Color::rgb(253, 252, 248)).unwrap();
+        b.push_clip(Rect::new(2.0, 0.0, 16.0, 12.0)).unwrap();
+        b.fill_rect(Rect::new(3.0, 10.0, bar, 3.0), Color::rgba(32, 122, 78, 200)).unwrap();
+        b.polyline(&[Pt::new(2.0, 9.0), Pt::new(9.0, 3.0), Pt::new(20.0, 9.0)], 3.0, Color::rgba(36, 66, 104, 99)).unwrap();
+        b.shadow_rrect(Rect::new(5.0, 5.0, 9.0, 6.0), 2.0, 3.0, Color::rgba(0, 0, 0, 96), true).unwrap();
+        b.bytes()
+    }
+
+    /// Words that are the ground, the ground under a filled uppermost byte, or any.
+    fn any_words(salt: u32) -> Vec<u32> {
+        let word = |i: u32| (i + 384 * salt).wrapping_mul(0x9E37_79B9) ^ salt;
+        let held = |w: u32| [GROUND, GROUND | w & 0xFF00_0000, w, !w][(w >> 13) as usize % 4];
+        (0..24 * 16).map(|i| held(word(i))).collect()
+    }
+
+    /// Painted or patched over any words, the steps are those of the ticket; grounded are the words of the box that were not the ground.
+    #[test]
+    fn counts_over_any_words() {
+        let (old, new) = (several(6.0), several(9.5));
+        let mut ticket = Ticket::from_bytes(new.clone()).unwrap();
+        let painted = ticket.altered();
+        ticket.patch(old.clone()).unwrap();
+        let patched = ticket.patch(new.clone()).unwrap();
+        assert_eq!((painted.area, patched.area), (IRect::new(0, 0, 24, 16), IRect::new(3, 10, 13, 13)));
+        assert!(painted.steps > patched.steps && patched.steps > 0);
+        for held in (0..50).map(any_words) {
+            let not_ground = |area: IRect| {
+                let inside = |i: usize| area.contains(i as i32 % 24, i as i32 / 24);
+                (0..held.len()).filter(|i| inside(*i) && held[*i] != GROUND).count() as u64
+            };
+            let after = |altered: Altered| Ok(Altered { grounded: not_ground(altered.area), ..altered });
+            assert_eq!(answer(raw::paint(&new, &mut held.clone(), &mut [])), after(painted));
+            assert_eq!(answer(raw::patch(&old, &new, &mut held.clone(), &mut [])), after(patched));
+        }
+    }
+
+    /// The answer of a refused call has zeros for box and counts.
+    #[test]
+    fn refused_answers_are_zeros() {
+        let (old, new, px) = (several(6.0), several(9.5), &mut any_words(7));
+        let (short, mut bad) = (&new[..new.len() - 1], new.clone());
+        let blur = new.len() - 8;
+        bad[blur..blur + 4].copy_from_slice(&f32::NAN.to_le_bytes());
+        let all = [
+            (3, 0, raw::paint(short, px, &mut [])),
+            (6, 5, raw::paint(&bad, px, &mut [])),
+            (8, 0, raw::paint(&new, &mut px[1..], &mut [])),
+            (3, 0, raw::patch(short, &new, px, &mut [])),
+            (6, 5, raw::patch(&old, &bad, px, &mut [])),
+            (8, 0, raw::patch(&old, &new, &mut px[1..], &mut [])),
+        ];
+        for (number, item, reply) in all {
+            assert_eq!((reply.number, reply.item, reply.area, reply.steps, reply.grounded), (number, item, IRect::default(), 0, 0));
+        }
+        assert_eq!(*px, any_words(7));
     }
 }

@@ -1,63 +1,56 @@
-//! Drawing call by call: the pixels are those of the sheet with the same calls, and a refused call alters nothing.
-use maldjupp::{Canvas, Color, IRect, Rect, Refusal, Shape, SheetBuilder, SheetError, Ticket};
+//! Drawing call by call: pixels and steps are those of the sheet with the same calls, and a refused call alters nothing.
+use drawn::draw;
+use maldjupp::{Canvas, Color, IRect, Rect, Refusal, SheetBuilder, SheetError, Ticket};
 use random::Random;
 
+mod drawn;
 mod random;
 
-fn draw(canvas: &mut Canvas, shape: &Shape) -> Result<(), Refusal> {
-    match shape {
-        Shape::Fill { rect, r, paint } => canvas.fill_rrect(*rect, *r, *paint),
-        Shape::Stroke { rect, r, width, color } => canvas.stroke_rrect(*rect, *r, *width, *color),
-        Shape::Line { a, b, width, color } => canvas.line(*a, *b, *width, *color),
-        Shape::Poly { points, paint } => canvas.fill_poly(points, *paint),
-        Shape::Shadow { rect, r, blur, color, skip_inside } => canvas.shadow_rrect(*rect, *r, *blur, *color, *skip_inside),
-        Shape::Polyline { points, width, color } => canvas.polyline(points, *width, *color),
-    }
-}
-
-/// A random call on both, and whether their limits are the same: in a sheet, a circle is the square around it.
-fn call(random: &mut Random, canvas: &mut Canvas, b: &mut SheetBuilder) -> (Result<(), Refusal>, Result<(), SheetError>, bool) {
+/// A random call on both, with the steps of a shape, and whether their limits are the same: in a sheet, a circle is the square around it.
+fn call(random: &mut Random, canvas: &mut Canvas, b: &mut SheetBuilder) -> (Result<u64, Refusal>, Result<usize, SheetError>, bool) {
     let (x, y, r, width, color, paint) = (random.float(), random.float(), random.float(), random.float(), random.color(), random.paint());
     let (rect, points) = (random.rect(), random.points());
     match random.below(12) {
-        0 | 1 => (canvas.push_clip(rect), b.push_clip(rect).map(drop), true),
-        2 => (canvas.pop_clip(), b.pop_clip().map(drop), true),
-        3 => (canvas.fill_rect(rect, paint), b.fill_rect(rect, paint).map(drop), true),
-        4 => (canvas.fill_circle(x, y, r, paint), b.fill_circle(x, y, r, paint).map(drop), false),
-        5 => (canvas.ring(x, y, r, width, color), b.ring(x, y, r, width, color).map(drop), false),
-        6 => (canvas.polyline(&points, width, color), b.polyline(&points, width, color).map(drop), true),
+        0 | 1 => (canvas.push_clip(rect).map(|()| 0), b.push_clip(rect), true),
+        2 => (canvas.pop_clip().map(|()| 0), b.pop_clip(), true),
+        3 => (canvas.fill_rect(rect, paint), b.fill_rect(rect, paint), true),
+        4 => (canvas.fill_circle(x, y, r, paint), b.fill_circle(x, y, r, paint), false),
+        5 => (canvas.ring(x, y, r, width, color), b.ring(x, y, r, width, color), false),
+        6 => (canvas.polyline(&points, width, color), b.polyline(&points, width, color), true),
         _ => {
             let shape = random.shape();
-            (draw(canvas, &shape), b.add(&shape).map(drop), true)
+            (draw(canvas, &shape), b.add(&shape), true)
         }
     }
 }
 
 #[test]
-fn the_pixels_are_those_of_the_sheet() {
+fn pixels_and_steps_are_those_of_the_sheet() {
     let mut random = Random(4);
     let (mut accepted, mut altered, mut refused) = (0, 0, [0; 14]);
     for _ in 0..600 {
         let (w, h, ground) = (1 + random.below(40) as i32, 1 + random.below(30) as i32, random.color());
         let (mut canvas, mut b) = (Canvas::new(w, h).unwrap(), SheetBuilder::new(w as u32, h as u32, ground).unwrap());
         canvas.clear(ground).unwrap();
+        let mut steps = 0;
         for _ in 0..random.below(60) {
             let before = (canvas.clone(), b.clone());
             match call(&mut random, &mut canvas, &mut b) {
-                (Ok(()), Ok(()), _) => accepted += 1,
+                (Ok(own), Ok(_), _) => (accepted, steps) = (accepted + 1, steps + own),
                 (Err(refusal), built, alike) => {
                     refused[refusal.number() as usize] += 1;
                     assert_eq!((canvas.px(), canvas.clip()), (before.0.px(), before.0.clip()));
                     assert!(!alike || built.unwrap_err().refusal() == Some(refusal));
                     b = before.1;
                 }
-                (Ok(()), Err(error), alike) => {
+                (Ok(_), Err(error), alike) => {
                     assert!(!alike, "{error}");
                     canvas = before.0;
                 }
             }
         }
-        assert_eq!(canvas.px(), Ticket::paint(&b).unwrap().px());
+        let ticket = Ticket::paint(&b).unwrap();
+        assert_eq!((canvas.px(), steps), (ticket.px(), ticket.altered().steps));
         altered += canvas.px().iter().any(|p| *p != canvas.get(0, 0)) as u32;
     }
     assert!(accepted > 10_000 && altered > 400 && refused[6] > 100 && refused[13] > 100, "{accepted} {altered} {refused:?}");

@@ -1,5 +1,5 @@
 //! The clip orders: all of them, each written where it fits, painted, and refused where it does not.
-use maldjupp::{clip_order, clip_orders, Color, Rect, Refusal, SheetBuilder, Ticket, LONGEST_CLIP_ORDER};
+use maldjupp::{clip_order, clip_orders, Altered, Color, IRect, Rect, Refusal, SheetBuilder, Ticket, LONGEST_CLIP_ORDER};
 use std::collections::HashSet;
 
 /// A buffer of bytes that differ from their neighbours.
@@ -42,6 +42,8 @@ fn each_is_painted() {
         assert_eq!((ticket.width(), ticket.height()), (4, 4));
         let white = ticket.px().iter().filter(|p| **p == 0x00FF_FFFF).count();
         assert_eq!(white + ticket.px().iter().filter(|p| **p == 0).count(), 16);
+        // White covers, so that a second fill alters no pixel.
+        assert_eq!(ticket.altered(), Altered { area: IRect::new(0, 0, 4, 4), steps: white as u64, grounded: 0 });
         seen[[0, 4, 9].iter().position(|n| *n == white).expect("none, the clipped fill or the whole one")] += 1;
     }
     assert!(seen.iter().all(|times| *times > 0), "{seen:?}");

@@ -1,5 +1,5 @@
 //! The polyline as one item: its bytes and limits, its pixels beside those of the canvas call and of its lines as items, and its patches.
-use maldjupp::{Canvas, Color, IRect, Pt, Rect, Refusal, Refused, Shape, SheetBuilder, SheetError, Ticket};
+use maldjupp::{Altered, Canvas, Color, IRect, Pt, Rect, Refusal, Refused, Shape, SheetBuilder, SheetError, Ticket};
 use random::Random;
 
 mod random;
@@ -107,7 +107,7 @@ fn as_lines(mut b: SheetBuilder, points: &[Pt], width: f32, color: Color) -> She
 }
 
 #[test]
-fn the_pixels_are_those_of_the_call_and_of_the_lines() {
+fn pixels_and_steps_are_those_of_the_call_and_of_the_lines() {
     let mut random = Random(5);
     let (mut altered, mut refused) = (0, 0);
     for _ in 0..3000 {
@@ -116,10 +116,13 @@ fn the_pixels_are_those_of_the_call_and_of_the_lines() {
         let (before, items) = (canvas.px().to_vec(), b.items());
         let lines = b.clone();
         match (b.polyline(&points, width, color), canvas.polyline(&points, width, color)) {
-            (Ok(index), Ok(())) => {
+            (Ok(index), Ok(steps)) => {
                 assert_eq!((index, b.items()), (items, items + 1));
-                assert_eq!(canvas.px(), Ticket::paint(&b).unwrap().px());
-                assert_eq!(canvas.px(), Ticket::paint(&as_lines(lines, &points, width, color)).unwrap().px());
+                let without = Ticket::paint(&lines).unwrap().altered().steps;
+                for sheet in [b, as_lines(lines, &points, width, color)] {
+                    let ticket = Ticket::paint(&sheet).unwrap();
+                    assert_eq!((canvas.px(), without + steps), (ticket.px(), ticket.altered().steps));
+                }
                 altered += (canvas.px() != before) as u32;
             }
             (Err(error), Err(refusal)) => {
@@ -132,7 +135,7 @@ fn the_pixels_are_those_of_the_call_and_of_the_lines() {
     assert!(altered > 500 && refused > 100, "{altered} {refused}");
 }
 
-/// With an alpha under 255 the joint is darker than the lines: on white, black of alpha 128 gives 127, and twice 63.
+/// With an alpha under 255 the joint is darker than the lines: on white, black of alpha 128 gives 127, and twice 63. It counts twice.
 #[test]
 fn a_joint_is_blended_twice() {
     let mut b = SheetBuilder::new(16, 5, Color::WHITE).unwrap();
@@ -140,6 +143,8 @@ fn a_joint_is_blended_twice() {
     let ticket = Ticket::paint(&b).unwrap();
     let row = &ticket.px()[2 * 16..];
     assert_eq!((row[4], row[7], row[8], row[12]), (0x7F_7F7F, 0x3F_3F3F, 0x3F_3F3F, 0x7F_7F7F));
+    // Three rows of each line's 10 columns, of which they share 4.
+    assert_eq!((ticket.altered().steps, ticket.px().iter().filter(|p| **p != 0xFF_FFFF).count()), (3 * 20, 3 * 16));
 }
 
 /// The smallest box around two, an empty one counting for nothing.
@@ -175,7 +180,7 @@ fn a_patch_has_the_box_around_old_and_new() {
         let mut ticket = Ticket::paint(&b).unwrap();
         for _ in 0..20 {
             let (points, width) = (random.points(), random.float() / 4.0);
-            if let Ok(area) = ticket.replace(index, Shape::polyline(&points, width, random.color())) {
+            if let Ok(Altered { area, .. }) = ticket.replace(index, Shape::polyline(&points, width, random.color())) {
                 let new = reach(&points, width);
                 assert_eq!(area, join(old, new));
                 assert_eq!(ticket.px(), Ticket::paint(&ticket.builder()).unwrap().px());
@@ -197,7 +202,7 @@ fn patches() {
     b.ring(12.0, 10.0, 6.0, 2.0, Color::WHITE).unwrap();
     let mut ticket = Ticket::paint(&b).unwrap();
     let mut patch = |shape: &Shape, area: IRect| {
-        assert_eq!(ticket.replace(index, shape.clone()), Ok(area));
+        assert_eq!(ticket.replace(index, shape.clone()).map(|altered| altered.area), Ok(area));
         assert_eq!(ticket.px(), Ticket::paint(&ticket.builder()).unwrap().px());
     };
     patch(&trace(0), IRect::default());

@@ -1,5 +1,5 @@
 //! The room that painting a sheet takes: scratch words, saved clips and pixels.
-use maldjupp::{room, Canvas, Color, IRect, Pt, Rect, Room, Shape, SheetBuilder, Ticket};
+use maldjupp::{room, Altered, Canvas, Color, IRect, Pt, Rect, Room, Shape, SheetBuilder, Ticket};
 use random::Random;
 
 mod random;
@@ -51,7 +51,7 @@ fn pixels_in_reach_and_clip() {
         let (clip, shape) = (Rect::new(x - 8.0, y - 8.0, 24.0, 20.0), random.shape());
         let (mut b, mut canvas) = (blank(), Canvas::new(W, H).unwrap());
         if let (Ok(_), Ok(_), Ok(())) = (b.push_clip(clip), b.add(&shape), canvas.push_clip(clip)) {
-            let reach = Ticket::paint(&nothing).unwrap().replace(0, shape).unwrap();
+            let reach = Ticket::paint(&nothing).unwrap().replace(0, shape).unwrap().area;
             let told = b.room().unwrap();
             assert_eq!((told.saved, told.pixels), (1, shared(reach, canvas.clip())));
             match told.pixels {
@@ -105,8 +105,10 @@ fn a_polygon_of_four_million_cells() {
     assert_eq!(b.room(), Ok(Room { words: 2002 * 2000 + 2, saved: 0, pixels: 1999 * 1999 }));
     let mut ticket = Ticket::paint(&b).unwrap();
     assert_eq!((ticket.px()[0], ticket.px()[1990 * 2048 + 1990]), (0xFF_FFFF, 0));
+    let half = 1998 * 1999 / 2;
+    assert_eq!(ticket.altered().steps, half);
     // One that is larger is not painted: no scratch, no reach.
-    assert_eq!(ticket.replace(0, corner(1998.5)), Ok(IRect::new(0, 0, 1999, 1999)));
+    assert_eq!(ticket.replace(0, corner(1998.5)), Ok(Altered { area: IRect::new(0, 0, 1999, 1999), steps: 0, grounded: half }));
     assert_eq!(room(ticket.sheet()), Ok(Room { words: 0, saved: 0, pixels: 0 }));
     assert!(ticket.px().iter().all(|p| *p == 0));
 }

@@ -1,5 +1,5 @@
 //! The builder and the ticket against the library, on random calls. `Plain` writes the format without any limit.
-use maldjupp::{room, Color, Error, IRect, Paint, Pt, Rect, Refusal, Refused, Shape, SheetBuilder, SheetError, Ticket};
+use maldjupp::{room, Altered, Color, Error, IRect, Paint, Pt, Rect, Refusal, Refused, Shape, SheetBuilder, SheetError, Ticket};
 use random::Random;
 use std::{fs, path::Path};
 
@@ -154,7 +154,7 @@ fn an_edited_ticket_is_a_fresh_one() {
                     patched += 1;
                     let place = |i: usize| ((i % ticket.width()) as i32, (i / ticket.width()) as i32);
                     let changed = |i: &usize| ticket.px()[*i] != before.px()[*i];
-                    assert!((0..ticket.px().len()).filter(changed).map(place).all(|(x, y)| altered.contains(x, y)));
+                    assert!((0..ticket.px().len()).filter(changed).map(place).all(|(x, y)| altered.area.contains(x, y)));
                 }
                 Err(error) => {
                     not += 1;
@@ -263,13 +263,14 @@ fn edits_of_shapes() {
     b.add(&at(2.0)).unwrap();
     let mut ticket = Ticket::paint(&b).unwrap();
     let refused = |refusal| Err(Error::Refused(Refused { refusal, item: 0 }));
-    assert_eq!(ticket.edit(|b| b.replace(0, &at(1.0)).and(b.replace(1, &at(3.0)))), Ok(IRect::new(0, 0, 4, 1)));
+    let altered = |x1: i32, steps: u64, grounded: u64| Ok(Altered { area: IRect::new(0, 0, x1, 1), steps, grounded });
+    assert_eq!(ticket.edit(|b| b.replace(0, &at(1.0)).and(b.replace(1, &at(3.0)))), altered(4, 2, 2));
     assert_eq!(ticket.px(), [0, 0xFF_FFFF, 0, 0xFF_FFFF, 0, 0, 0, 0]);
-    assert_eq!(ticket.edit(|b| b.replace(0, &at(0.0)).and(b.replace(1, &at(2.0)))), Ok(IRect::new(0, 0, 4, 1)));
+    assert_eq!(ticket.edit(|b| b.replace(0, &at(0.0)).and(b.replace(1, &at(2.0)))), altered(4, 2, 2));
     assert_eq!(ticket.edit(|b| b.add(&at(1.0))), refused(Refusal::Difference));
-    assert_eq!(ticket.edit(|b| b.replace(0, &at(0.0))), Ok(IRect::default()));
+    assert_eq!(ticket.edit(|b| b.replace(0, &at(0.0))), Ok(Altered::default()));
     assert_eq!(ticket.edit(|b| b.replace(7, &at(1.0))), Err(Error::Sheet(SheetError::NoItem { index: 7, count: 2 })));
-    assert_eq!(ticket.replace(0, at(5.0)), Ok(IRect::new(0, 0, 6, 1)));
+    assert_eq!(ticket.replace(0, at(5.0)), altered(6, 2, 2));
     assert_eq!(ticket.px(), [0, 0, 0xFF_FFFF, 0, 0, 0xFF_FFFF, 0, 0]);
 
     let mut b = black(8, 1);
@@ -279,7 +280,7 @@ fn edits_of_shapes() {
     let mut ticket = Ticket::paint(&b).unwrap();
     let moved = |n: usize, x: f32| move |b: &mut SheetBuilder| (0..n).try_for_each(|i| b.replace(i, &at(x)));
     assert_eq!(ticket.edit(moved(33, 4.0)), refused(Refusal::Many));
-    assert_eq!(ticket.edit(moved(32, 4.0)), Ok(IRect::new(0, 0, 5, 1)));
+    assert_eq!(ticket.edit(moved(32, 4.0)), altered(5, 2, 1));
     assert_eq!(ticket.px(), Ticket::paint(&ticket.builder()).unwrap().px());
 }
 
