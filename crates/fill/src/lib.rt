@@ -1,4 +1,5 @@
-// Filled rectangles and circles, as gfx.rs fills them: the rims of each row by distance, its middle whole.
+// Filled rectangles and circles, as gfx.rs fills them: the rims of each row by distance, its middle whole. What draws returns how many pixels'
+// values it altered.
 use color::Color;
 use color::blend_c;
 use color::over;

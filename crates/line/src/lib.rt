@@ -1,4 +1,5 @@
-// Lines with round ends, as gfx.rs draws them: each pixel by its distance to the segment.
+// Lines with round ends, as gfx.rs draws them: each pixel by its distance to the segment. What draws returns how many of its steps altered a
+// pixel's value.
 use color::Color;
 use color::blend_c;
 use draw::Area;

@@ -1,4 +1,4 @@
-// From the accumulator to the pixels.
+// From the accumulator to the pixels. What draws returns how many pixels' values it altered.
 use bounds::PolyBox;
 use bounds::reach_of;
 use color::Color;

@@ -1,4 +1,4 @@
-// The soft shadow of a rounded rectangle.
+// The soft shadow of a rounded rectangle. What draws returns how many pixels' values it altered.
 use color::Color;
 use color::over;
 use color::over_wide;

@@ -1,4 +1,4 @@
-// The outline of a rounded rectangle, and of a circle.
+// The outline of a rounded rectangle, and of a circle. What draws returns how many pixels' values it altered.
 use color::Color;
 use color::blend_c;
 use color::blend_c_wide;
