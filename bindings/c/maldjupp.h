@@ -39,8 +39,8 @@ enum maldjupp_number {
  *
  * A step is one shape at one pixel; a polyline takes one step a line at each pixel, each line on what the one before left, so that a joint may
  * count twice. A step alters the pixel where its value, all 32 bits, differs afterwards. `steps` is how many of the sheet's did so within the
- * box: its shapes are drawn on its own ground, so it hangs on the sheets alone, not on what the pixels held. `grounded` is how many pixels of
- * the box the filling with the ground altered: it hangs on what they held. */
+ * box, its shapes being drawn on its own ground: of a painting it hangs on the sheet alone, whatever the pixels held. `grounded` is how many
+ * pixels of the box the filling with the ground altered: it hangs on what they held. */
 struct maldjupp_reply {
     uint32_t number; /* 0 where accepted, else one of the numbers above */
     uint32_t item;   /* the item, counted from 1, beside 4, 5, 6, 7 and 13; else 0 */

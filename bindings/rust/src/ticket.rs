@@ -36,7 +36,8 @@ pub struct Altered {
     pub area: IRect,
     /// How many steps altered a pixel of the box. A step is one shape of the sheet at one pixel; a polyline takes one step a line at each
     /// pixel, each line on what the one before left, so that a joint may count twice. It alters the pixel where its value, all 32 bits,
-    /// differs afterwards. The shapes are drawn on the sheet's own ground: this hangs on the sheets alone, not on what the pixels held.
+    /// differs afterwards. The shapes are drawn on the sheet's own ground: of a painting this hangs on the sheet alone, whatever the pixels
+    /// held.
     pub steps: u64,
     /// How many pixels of the box the filling with the ground altered, by their value too: this hangs on what the pixels held. Before its
     /// painting a ticket's pixels are 0, so that painting a black ground alters none, and any other all of them.

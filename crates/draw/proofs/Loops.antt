@@ -4,7 +4,6 @@
 --     row-next                  the turn stores what f gives of the pixel, and counts it where that differs
 --     row-pass                  the turn stores nothing, since f leaves the pixel
 --     row-span                  a call drew a part of the row
---     row-skip                  a part of the row that f leaves
 --     row-three, row-clamped    a row whose parts three calls drew
 --     clamped-order, three-fit  the parts stand in order, and their counts can be added
 --     rows-next                 a call drew row y
@@ -30,7 +29,7 @@ use Rattle.draw.specs.declared.Area.{Area}
 use Rattle.draw.specs.Draw.{differ}
 use Rattle.draw.specs.Areas.{drawnIn, area, within, RowFits, AreaFits, Drew, DrewRow, DrewIn}
 use Rattle.draw.proofs.Counts.{differ-same, differ-one}
-use Rattle.draw.proofs.Rows.{within-in, within-below, within-above, length-drawn, drawn-idle, none-across, none-down, row-join, rows-join, row-count, rows-count, cell, row-same, room-of}
+use Rattle.draw.proofs.Rows.{within-in, within-below, within-above, length-drawn, none-across, none-down, row-join, rows-join, row-count, rows-count, cell, row-same, room-of}
 
 pub record InRow (pitch : ℕ) (f : ℕ → ℕ → ℕ → ℕ) (y x0 x1 : ℕ) (px₀ px : List ℕ) (n x : ℕ) : Type 0 where
   pub done : px ≡ drawnIn pitch (area x0 y x (y + 1)) f px₀
@@ -131,12 +130,6 @@ row-pass {pitch} {f} {y} {x0} {x1} {px₀} {px} {n} {x} q i h e =
     let same : px ≡ drawnIn pitch (area x y (x + 1) (y + 1)) f px =
     sym (set-getD px k 0) ∙ ap (λ (v : ℕ). set px k v) e ∙ cell pitch f px x y (omega arith) (omega arith) in
     rw add-zero at (row-span f (x + 1) px i (omega arith) (omega arith) (drew-none same) (λ j p _ _. refl))
-
--- columns that f leaves are passed over
-pub row-skip : {pitch : ℕ} {f : ℕ → ℕ → ℕ → ℕ} {y x0 x1 : ℕ} {px₀ px : List ℕ} {n x : ℕ} (x′ : ℕ)
-    → InRow pitch f y x0 x1 px₀ px n x → x ≤ x′ → x′ ≤ x1 → ((j p : ℕ) → x ≤ j → j < x′ → p ≡ f j y p) → InRow pitch f y x0 x1 px₀ px n x′
-row-skip {pitch} {f} {y} {x0} {x1} {px₀} {px} {n} {x} x′ i h u idle =
-    rw add-zero at (row-span (λ j r p. p) x′ px i h u (drew-none (drawn-idle pitch f px (area x y x′ (y + 1)))) idle)
 
 pub row-end : {pitch : ℕ} {f : ℕ → ℕ → ℕ → ℕ} {y x0 x1 : ℕ} {px₀ px : List ℕ} {n x : ℕ}
     → InRow pitch f y x0 x1 px₀ px n x → x1 ≤ x → DrewRow pitch y x0 x1 f px₀ n px

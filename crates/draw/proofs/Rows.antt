@@ -1,7 +1,6 @@
 -- Laws of `drawnIn`, by which a loop that goes through a box row by row, and through a row from the left, leaves `drawnIn` of the box.
 --     length-drawn              the length
 --     none-across, none-down    an empty box, as where such a loop begins
---     row-more                  one store more in a row
 --     row-join                  a part of a row after the part on its left
 --     rows-join                 rows after the rows above them
 --     row-count, rows-count     how many pixels two such parts alter
@@ -199,13 +198,6 @@ module _ (pitch : ℕ) (f : ℕ → ℕ → ℕ → ℕ) (px : List ℕ) where
       ap₂ (λ (c r : ℕ). set px (y * pitch + x) (f c r (getD px (y * pitch + x) 0))) (sym (digits-mod y h)) (sym (digits-div y h))
       ∙ onto-one (λ i. inArea (area x y (x + 1) (y + 1)) (i % pitch) (i / pitch)) (λ i p. f (i % pitch) (i / pitch) p) px (y * pitch + x) l
       (λ j _. rw (within-one x (j % pitch), within-one y (j / pitch)) (place pitch x y j h))
-
--- one store more in a row
-pub row-more : (pitch : ℕ) (f : ℕ → ℕ → ℕ → ℕ) (px : List ℕ) (x0 x y : ℕ) → x0 ≤ x → x < pitch → y * pitch + x < length px
-    → set (drawnIn pitch (area x0 y x (y + 1)) f px) (y * pitch + x) (f x y (getD (drawnIn pitch (area x0 y x (y + 1)) f px) (y * pitch + x) 0)) ≡ drawnIn pitch (area x0 y (x + 1) (y + 1)) f px
-row-more pitch f px x0 x y l h u =
-    cell pitch f (drawnIn pitch (area x0 y x (y + 1)) f px) x y h (omega (arith, length-drawn pitch f px (area x0 y x (y + 1))))
-    ∙ row-join pitch f px x0 x (x + 1) y (y + 1) l (omega arith)
 
 -- another pixel function, which agrees in a part of a row
 pub row-same : (pitch : ℕ) (f g : ℕ → ℕ → ℕ → ℕ) (px : List ℕ) (x0 x1 y : ℕ) → ((x p : ℕ) → x0 ≤ x → x < x1 → f x y p ≡ g x y p)

@@ -49,15 +49,15 @@ module _ (s : List ℕ) (e : sheetCheck s ≡ verdict 0 0) (first : IRect) (ok :
     start = record { stands = stands-first s first e ok; count = count; words = words }
 
     -- px and scratch after the items, and their steps
-    pub items-px : stagesFrom s (countOf s) 0 (stage c px scratch) .px ≡ itemsOn kind (widthOf s) (itemsFrom s (countOf s) 0) (only first) px
+    items-px : stagesFrom s (countOf s) 0 (stage c px scratch) .px ≡ itemsOn kind (widthOf s) (itemsFrom s (countOf s) 0) (only first) px
     unfolding stateIn savedOf
     items-px = drawn-px s e (countOf s) 0 (stage c px scratch) (zero-add (countOf s)) start
 
-    pub items-steps : stepsFrom s (countOf s) 0 (stage c px scratch) ≡ itemsAlter kind (widthOf s) (itemsFrom s (countOf s) 0) (only first) px
+    items-steps : stepsFrom s (countOf s) 0 (stage c px scratch) ≡ itemsAlter kind (widthOf s) (itemsFrom s (countOf s) 0) (only first) px
     unfolding stateIn savedOf
     items-steps = drawn-steps s e (countOf s) 0 (stage c px scratch) (zero-add (countOf s)) start
 
-    pub items-scratch : stagesFrom s (countOf s) 0 (stage c px scratch) .scratch ≡ cleared (needIn s) scratch
+    items-scratch : stagesFrom s (countOf s) 0 (stage c px scratch) .scratch ≡ cleared (needIn s) scratch
     items-scratch = drawn-scratch s e (countOf s) 0 (stage c px scratch) (zero-add (countOf s)) start
 
 -- ---- the ground
