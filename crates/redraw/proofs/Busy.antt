@@ -1,18 +1,16 @@
 -- What the counts tell: `Busy`, of any lawful format. Assumes nothing.
-use mathlib.Core.Bool.{true}
 use mathlib.Core.List.{List, [], _∷_}
 use mathlib.Core.Path.{_≡_, refl, sym, ap, _∙_}
-use Prim.Native.Nat.{ℕ, _+_, _*_}
+use Prim.Native.Nat.{ℕ, _*_}
 use native.Mathlib.Omega.{arith}
-use lib.ListN.{length, replicate}
+use lib.ListN.{length}
 use Rattle.draw.proofs.Counts.{differ-none}
 use Rattle.draw.proofs.Parts.{alters-none}
 use Rattle.geom.specs.declared.IRect.{IRect}
-use Rattle.redraw.specs.declared.Reply.{Reply}
-use Rattle.redraw.specs.Drawing.{Item, push, pop, shape, Clips, only, after, itemOn, itemsOn, groundIn}
-use Rattle.redraw.specs.Sheet.{Format, Lawful, Sheet, read, Outcome, refuses, draws, canvas, painting, pixels, accepted}
+use Rattle.redraw.specs.Drawing.{Item, push, pop, shape, Clips, only, after, itemOn, itemsOn}
+use Rattle.redraw.specs.Sheet.{Format, Lawful, Sheet, Outcome, refuses, draws, canvas, pixels}
 use Rattle.redraw.specs.Counts.{itemAlters, itemsAlter, stepsOf, groundsOf, freshSteps}
-use Rattle.redraw.specs.Calls.{Painted, Busy}
+use Rattle.redraw.specs.Calls.{Busy}
 use Rattle.redraw.proofs.Items.{length-ground}
 use Rattle.redraw.proofs.Lists.{paint-accepted, read-one}
 use Rattle.redraw.proofs.Rules.{ground-all}
