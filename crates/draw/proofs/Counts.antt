@@ -2,7 +2,7 @@
 --     differ-same    a list differs from itself nowhere
 --     differ-one     a store differs at its place at most
 --     differ-join    of two changes, of which no place has both, the counts add up
---     differ-most    no more than there are places
+--     differ-most    no more than there are places, and at one place no more than 1 (one-most)
 --     differ-none    lists that differ nowhere are equal
 -- Assumes nothing.
 use mathlib.Core.Path.{_≡_, refl, sym}
@@ -28,7 +28,7 @@ differ-one [] i v h = absurd (not-suc-le-zero h)
 differ-one (p ∷ ps) zero v h = let e = differ-same ps in omega arith
 differ-one (p ∷ ps) (suc i) v h = rw (eq-eqb p p refl, differ-one ps i v (le-of-suc-le-suc h), zero-add)
 
-one-most : (t : Bool) → cond t 0 1 ≤ 1
+pub one-most : (t : Bool) → cond t 0 1 ≤ 1
 one-most true = lit≤ tt
 one-most false = lit≤ tt
 

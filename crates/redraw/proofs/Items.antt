@@ -32,7 +32,7 @@ module _ (K : Kind) (x y : ℕ) where
   out-popped c e none = record { clips = e; saves = none }
   out-popped c e (more f d) = record { clips = f; saves = d }
 
-  out-after : (i : Item (K .Shape)) (c : Clips) → Out c → Out (after i c)
+  pub out-after : (i : Item (K .Shape)) (c : Clips) → Out c → Out (after i c)
   unfolding after
   out-after (push s b) c o = record { clips = rw (in-meet, o .clips); saves = more (o .clips) (o .saves) }
   out-after (pop s) c o = out-popped (c .clip) (o .clips) (o .saves)

@@ -6,3 +6,4 @@ pub mod Rules
 pub mod Sums
 pub mod Measured
 pub mod Busy
+pub mod Ceilings

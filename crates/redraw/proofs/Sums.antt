@@ -3,7 +3,7 @@
 use mathlib.Core.Path.{_≡_, refl, ap, _∙_}
 use mathlib.Core.Bool.{Bool, true, false, cond, _&&_}
 use Prim.Native.Nat.{ℕ, zero, suc, _+_, _*_, _-_, _/_, _%_, _≤_, _<_, min}
-use native.Mathlib.Nat.{suc-mul, zero-mul, mul-comm, add-assoc}
+use native.Mathlib.Nat.{suc-mul, zero-mul, mul-comm, add-assoc, zero-add}
 use native.Mathlib.Omega.{arith}
 use mathlib.Core.Logic.{_⊎_, inl, inr, ⊎-elim}
 use lib.Arith.{digits-div, digits-mod}
@@ -30,6 +30,10 @@ sum-add f m zero = let e : m + 0 ≡ m = omega arith in rw e (omega arith)
 sum-add f m (suc n) =
     let e : m + suc n ≡ suc (m + n) = omega arith in
     rw (e) (ap (λ (s : ℕ). s + f (m + n)) (sum-add f m n) ∙ add-assoc (sumTo f m) (sumTo (λ i. f (m + i)) n) (f (m + n)))
+
+pub sum-first : (f : ℕ → ℕ) (n : ℕ) → sumTo f (suc n) ≡ f 0 + sumTo (λ i. f (1 + i)) n
+unfolding sumTo
+sum-first f n = let e : suc n ≡ 1 + n = omega arith in ap (sumTo f) e ∙ sum-add f 1 n ∙ ap (λ (a : ℕ). a + sumTo (λ i. f (1 + i)) n) (zero-add (f 0))
 
 -- columns by a test p, rows by a test q
 module _ (w : ℕ) (p q : ℕ → Bool) where

@@ -1,7 +1,9 @@
--- Redrawing: what items draw (Drawing), what painting and patching answer and leave (Sheet) and count (Counts), and demand 3 (Calls).
+-- Redrawing: what items draw (Drawing), what painting and patching answer and leave (Sheet) and count (Counts), demand 3 (Calls), the ceiling
+-- on patch work (Ceiling), and what painting takes (Sums, Measure).
 pub mod Drawing
 pub mod Sheet
 pub mod Counts
 pub mod Calls
+pub mod Ceiling
 pub mod Sums
 pub mod Measure

@@ -1,4 +1,6 @@
--- The model of a list of patches (Ran), demand 3 (Demand3), and the starred examples (Starred). Assumes nothing.
+-- The model of a list of patches (Ran), demand 3 (Demand3), the starred examples (Starred), and examples of the ceiling on patch work (Examples).
+-- Assumes nothing.
 pub mod Demand3
 pub mod Ran
 pub mod Starred
+pub mod Examples

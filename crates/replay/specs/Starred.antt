@@ -32,13 +32,13 @@ use Rattle.redraw.specs.Counts.{itemAlters, itemsAlter, stepsOf, groundsOf}
 use Rattle.redraw.specs.Sheet.{canvas, sameHeader, few, tooMany, withPair, bothShapes, change, reaches, lent, paintOf, patchBy, patchOf, painting, patching, answer, pixels}
 
 -- 0, 1 and 2 as the bytes of floats
-abbrev zero : List ℕ
+abbrev pub zero : List ℕ
 zero = 0 ∷ 0 ∷ 0 ∷ 0 ∷ []
 
 abbrev one : List ℕ
 one = 0 ∷ 0 ∷ 128 ∷ 63 ∷ []
 
-abbrev two : List ℕ
+abbrev pub two : List ℕ
 two = 0 ∷ 0 ∷ 0 ∷ 64 ∷ []
 
 -- the sheet 4 × 1, ground 0, with one solid fill (x, 0, 1, 1), red, alpha 255, r 0
