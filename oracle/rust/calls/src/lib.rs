@@ -1,5 +1,6 @@
 //! The sheet calls, measuring and the call of the clip orders of the crate `maldjupp`, on lent memory. A slice passes as a pointer and a
 //! length.
+pub mod ceilings;
 pub mod lent;
 pub mod rooms;
 

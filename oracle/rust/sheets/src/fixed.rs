@@ -1,6 +1,6 @@
 //! The sheets and patches that document 01 gives as examples, the largest of their kinds, and the edges of requests 2026-01 and 2026-04.
 use crate::{
-    fixed_chains, fixed_counts,
+    fixed_ceilings, fixed_chains, fixed_counts,
     make::{bytes, pop},
     Made, LONGEST,
 };
@@ -168,6 +168,7 @@ pub fn check() {
     assert_eq!(patched.px, [0, 0, 0x00ff_0000, 0]);
     fixed_chains::check();
     fixed_counts::check();
+    fixed_ceilings::check();
 }
 
 /// The pixels that a painting leaves, all bits set before it.

@@ -1,12 +1,13 @@
-//! Edges of change request 2026-05: what calls count, worked out by hand from its words.
+//! Edges of change request 2026-05: what calls count, worked out by hand from its words; of patches also the ceiling of 2026-06.
 use crate::{
     called,
     fixed::{fill, made, push, red, with, RED},
+    fixed_ceilings,
     fixed_chains::{chain, rows, HALF, ONCE},
-    MOST_SIDE,
+    Ceiling, MOST_SIDE,
 };
 
-/// A painting, or a patch where there is an old sheet, on pixels and without scratch; and what it counts.
+/// A painting, or a patch where there is an old sheet, on pixels and without scratch; what it counts, and the ceiling of an accepted patch.
 pub struct Count {
     pub name: &'static str,
     pub old: Option<Vec<u8>>,
@@ -14,9 +15,10 @@ pub struct Count {
     pub before: Vec<u32>,
     pub steps: u64,
     pub grounded: u64,
+    pub ceiling: Option<Ceiling>,
 }
 
-const WHITE: [u8; 4] = [255; 4];
+pub const WHITE: [u8; 4] = [255; 4];
 const RED_PIXEL: u32 = 0x00ff_0000;
 
 /// A canvas of 4 × 1, its ground black.
@@ -32,7 +34,7 @@ fn whole(rgba: [u8; 4]) -> Vec<u8> {
 fn paintings() -> Vec<Count> {
     let mut all = vec![];
     let mut add = |name, new: Vec<u8>, before: &[u32], steps, grounded| {
-        all.push(Count { name, old: None, new, before: before.to_vec(), steps, grounded });
+        all.push(Count { name, old: None, new, before: before.to_vec(), steps, grounded, ceiling: None });
     };
     // The ground alters every pixel that was not black with a high byte of 0; then the fill alters the first.
     add("red", red(0.0), &[0xffff_ffff; 4], 1, 4);
@@ -66,35 +68,38 @@ fn paintings() -> Vec<Count> {
     all
 }
 
-/// Patches on 4 × 1, each on the pixels of its old sheet but for the second.
+/// Patches on 4 × 1, each on the pixels of its old sheet but for the second; with M and area.
 fn patches() -> Vec<Count> {
     let mut all = vec![];
-    let mut add = |name, old: Vec<u8>, new: Vec<u8>, before: [u32; 4], steps, grounded| {
-        all.push(Count { name, old: Some(old), new, before: before.to_vec(), steps, grounded });
+    let mut add = |name, old: Vec<u8>, new: Vec<u8>, before: [u32; 4], steps, grounded, [meeting, area]: [u64; 2]| {
+        let ceiling = Some(Ceiling { meeting, area });
+        all.push(Count { name, old: Some(old), new, before: before.to_vec(), steps, grounded, ceiling });
     };
     // Of columns 0 to 2 the ground alters the first, the fill the last.
-    add("red_moved", red(0.0), red(2.0), [RED_PIXEL, 0, 0, 0], 1, 1);
+    add("red_moved", red(0.0), red(2.0), [RED_PIXEL, 0, 0, 0], 1, 1, [1, 3]);
     // Whatever the pixels are, an empty box has none to alter.
-    add("no_difference", red(0.0), red(0.0), [7; 4], 0, 0);
-    add("differing_off_the_canvas", red(-9.0), red(9.0), [0; 4], 0, 0);
-    add("red_come", red(-9.0), red(3.0), [0; 4], 1, 0);
-    add("red_gone", red(0.0), red(9.0), [RED_PIXEL, 0, 0, 0], 0, 1);
-    // Of two fills the second moves from column 1 to 2: what the first alters lies outside the box, columns 1 and 2.
+    add("no_difference", red(0.0), red(0.0), [7; 4], 0, 0, [0, 0]);
+    add("differing_off_the_canvas", red(-9.0), red(9.0), [0; 4], 0, 0, [0, 0]);
+    // The old sheet's fill does not meet the box, or it alone does.
+    add("red_come", red(-9.0), red(3.0), [0; 4], 1, 0, [1, 1]);
+    add("red_gone", red(0.0), red(9.0), [RED_PIXEL, 0, 0, 0], 0, 1, [0, 1]);
+    // Of two fills the second moves from column 1 to 2: what the first alters lies outside the box, columns 1 and 2, which it touches.
     let two = |x: f32| row(vec![fill(0.0, 0.0, 1.0, 1.0, RED), fill(x, 0.0, 1.0, 1.0, RED)]);
-    add("second_moved", two(1.0), two(2.0), [RED_PIXEL, RED_PIXEL, 0, 0], 1, 1);
+    add("second_moved", two(1.0), two(2.0), [RED_PIXEL, RED_PIXEL, 0, 0], 1, 1, [1, 2]);
     // The whole canvas is the box of a fill that cannot be seen.
-    add("unseen", row(vec![whole([9, 9, 9, 0])]), row(vec![whole([8, 8, 8, 0])]), [0; 4], 0, 0);
+    add("unseen", row(vec![whole([9, 9, 9, 0])]), row(vec![whole([8, 8, 8, 0])]), [0; 4], 0, 0, [1, 4]);
     // A line over columns 0 and 1 gets a second one, over 1 to 3; the box is the whole canvas.
     let trace = |points: &[f32]| row(vec![chain(points, 1.0, HALF)]);
     let points = [0.5, 0.5, 1.5, 0.5, 3.5, 0.5];
-    add("trace_grown", trace(&points[..4]), trace(&points), [ONCE, ONCE, 0, 0], 2 + 3, 2);
+    add("trace_grown", trace(&points[..4]), trace(&points), [ONCE, ONCE, 0, 0], 2 + 3, 2, [2, 4]);
     // Refused by 10: the ground is another.
-    add("refused", red(0.0), with(red(0.0), 4, 1), [RED_PIXEL, 0, 0, 0], 0, 0);
+    let (old, new) = (Some(red(0.0)), with(red(0.0), 4, 1));
+    all.push(Count { name: "refused", old, new, before: vec![RED_PIXEL, 0, 0, 0], steps: 0, grounded: 0, ceiling: None });
     all
 }
 
 pub fn counts() -> Vec<Count> {
-    [paintings(), patches()].into_iter().flatten().collect()
+    [paintings(), patches(), fixed_ceilings::patches()].into_iter().flatten().collect()
 }
 
 /// On the largest canvas 1,020 fills, red and white in turn, and after every 255th a chain of three lines that are wider than the canvas: each

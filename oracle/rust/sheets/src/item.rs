@@ -177,7 +177,15 @@ impl Item {
         }
     }
 
-    /// The box before the clip; empty where the method returns before it meets the clip.
+    /// Its reaches, one for each step that it takes at a pixel: a chain has one for each of its lines, another item its own alone.
+    pub fn reaches(&self) -> Vec<IRect> {
+        match self {
+            Item::Chain { width, points, .. } => points.windows(2).map(|ends| line_reach(&ends[0], &ends[1], *width)).collect(),
+            _ => vec![self.reach()],
+        }
+    }
+
+    /// The box before the clip, of a chain around those of its lines; empty where the method returns before it meets the clip.
     pub fn reach(&self) -> IRect {
         match self {
             Item::Fill { rect, .. } if rect.w <= 0.0 || rect.h <= 0.0 => EMPTY,
@@ -185,7 +193,7 @@ impl Item {
             Item::Stroke { rect, ink, .. } if rect.w <= 0.0 || rect.h <= 0.0 || ink.a == 0 => EMPTY,
             Item::Stroke { rect, .. } => IRect::from_rect_outer(rect),
             Item::Line { a, b, width, .. } => line_reach(a, b, *width),
-            Item::Chain { width, points, .. } => points.windows(2).map(|ends| line_reach(&ends[0], &ends[1], *width)).fold(EMPTY, around),
+            Item::Chain { .. } => self.reaches().into_iter().fold(EMPTY, around),
             Item::Polygon { points, .. } => match cells(points) {
                 Some((ox, oy, bw, bh)) => IRect::new(ox, oy, ox + bw as i32, oy + bh as i32),
                 None => EMPTY,

@@ -1,9 +1,11 @@
 //! The sheet and its patch as document 01 gives them, read in plain Rust apart from the proved crates and painted on the unchanged Rust
 //! canvas; and the sheets, damaged ones included, and patches that the proved library is held to.
+pub mod ceiling;
 pub mod chains;
 pub mod change;
 pub mod damage;
 pub mod fixed;
+pub mod fixed_ceilings;
 pub mod fixed_chains;
 pub mod fixed_counts;
 pub mod fixed_rooms;
@@ -14,6 +16,7 @@ pub mod orders;
 pub mod sheet;
 pub mod text;
 
+pub use ceiling::Ceiling;
 pub use chains::Chains;
 pub use item::Item;
 pub use make::Made;

@@ -26,6 +26,11 @@ impl Answer {
     pub fn uncounted(self) -> Answer {
         Answer { steps: 0, grounded: 0, ..self }
     }
+
+    /// The box that it reports.
+    pub fn reported(&self) -> IRect {
+        IRect::new(self.x0, self.y0, self.x1, self.y1)
+    }
 }
 
 /// What a call must do, whatever the pixels before it are: its number, item and box, how many of the first scratch words it leaves +0, and

@@ -1,22 +1,27 @@
 //! Lists of patches after an accepted painting, beside the unchanged Rust: `patches CALLS`, or `patches list N` for one list of them.
-//! After each call every pixel must be that of the sheet accepted last, painted afresh. Exit status 1 where anything differs, or where a
-//! number of documents 01 and 02, a way of altering a sheet, a number of differing shapes, a pair with a chain or a patch that alters nothing
-//! comes too seldom.
+//! After each call every pixel must be that of the sheet accepted last, painted afresh, and an accepted patch's counts at most their
+//! ceiling. Exit status 1 where anything differs, or where a number of documents 01 and 02, a way of altering a sheet, a number of differing
+//! shapes, a pair with a chain or a patch that alters nothing comes too seldom, or no count comes near its ceiling.
 use answers::random::{Random, SEED};
-use calls::{dirty, enough, Compared, Memory, Numbers, TOLD};
+use calls::{ceilings::Ceilings, dirty, enough, Compared, Memory, Numbers, TOLD};
 use sheets::{
     called,
     chains::unseen,
     change::{self, APART, PX, SCRATCH, WAYS},
-    fixed, fixed_counts, make, paint, patch, Chains, Counted, Expected, Made, Sheet,
+    fixed, fixed_counts, make, paint, patch, Answer, Ceiling, Chains, Counted, Expected, Made, Sheet,
 };
 use std::{env, process::exit, time::Instant};
 
 /// How many shapes may differ in a patch: from a number on.
 const SETS: [(usize, &str); 7] = [(0, "none"), (1, "one"), (2, "2 to 15"), (16, "16 to 31"), (32, "32"), (33, "33"), (34, "34 to 40")];
 
+/// Old and new sheet of a patch, where both are sound.
+fn read(old: &[u8], new: &[u8]) -> Option<[Sheet; 2]> {
+    Some([Sheet::read(old).ok()?, Sheet::read(new).ok()?])
+}
+
 /// The number of items that differ in two sheets of one count.
-fn differing(old: &Sheet, new: &Sheet) -> usize {
+fn differing([old, new]: &[Sheet; 2]) -> usize {
     old.items.iter().zip(&new.items).filter(|(a, b)| a.1 != b.1).count()
 }
 
@@ -32,6 +37,7 @@ struct Run {
     /// Accepted patches, and patches refused by 14, by how many shapes differ, in the order of `SETS`.
     sets: [u64; SETS.len()],
     chains: Chains,
+    ceilings: Ceilings,
     compared: Compared,
     paintings: u64,
     calls: u64,
@@ -94,9 +100,14 @@ impl Run {
         let after = expected.after(&px, counted.as_ref());
         let left = self.memory.call(Some(&old), &new, &px, &scratch, random);
         self.count(way, &after.answer);
-        self.count_pairs(&old, &new, &expected, counted.as_ref());
         if let Some(what) = self.compared.fault(&left, &after, &scratch) {
             self.differs(name, what, format!("{:?} instead of {:?}\n  old {old:02x?}\n  new {new:02x?}", left.answer, after.answer));
+        }
+        if let Some(sheets) = read(&old, &new) {
+            self.count_pairs(&sheets, &expected, counted.as_ref());
+            if let Some(ceiling) = self.hold(name, &sheets, &left.answer) {
+                self.ceilings.add(&sheets, &left.answer, &ceiling);
+            }
         }
         if way >= APART {
             return;
@@ -114,7 +125,20 @@ impl Run {
         }
     }
 
-    fn count(&mut self, way: usize, answer: &sheets::Answer) {
+    /// Holds a patch that the library accepted to its ceiling, by the new sheet and the box that it reported; answers that.
+    fn hold(&mut self, name: &str, sheets: &[Sheet; 2], answer: &Answer) -> Option<Ceiling> {
+        if answer.number > 0 {
+            return None;
+        }
+        let ceiling = Ceiling::of(&sheets[1], answer.reported());
+        if let Some(what) = ceiling.fault(answer) {
+            let [old, new] = sheets.each_ref().map(|sheet| Made::of(sheet).bytes());
+            self.differs(name, what, format!("{answer:?} with {ceiling:?}\n  old {old:02x?}\n  new {new:02x?}"));
+        }
+        Some(ceiling)
+    }
+
+    fn count(&mut self, way: usize, answer: &Answer) {
         self.calls += 1;
         self.numbers.add(answer.number);
         if answer.number > 0 {
@@ -127,14 +151,13 @@ impl Run {
     }
 
     /// Which items differ, in a patch that was accepted or refused by 14.
-    fn count_pairs(&mut self, old: &[u8], new: &[u8], expected: &Expected, counted: Option<&Counted>) {
+    fn count_pairs(&mut self, sheets: &[Sheet; 2], expected: &Expected, counted: Option<&Counted>) {
         if [0, 14].contains(&expected.number) {
-            let [old, new] = [old, new].map(|bytes| Sheet::read(bytes).expect("a sound sheet"));
-            let n = differing(&old, &new);
+            let n = differing(sheets);
             self.sets[SETS.iter().rposition(|(from, _)| *from <= n).expect("0 is the first")] += 1;
             if let Some(counted) = counted {
-                self.chains.painted(&new, counted);
-                self.chains.patched(&old, &new);
+                self.chains.painted(&sheets[1], counted);
+                self.chains.patched(&sheets[0], &sheets[1]);
             }
         }
     }
@@ -165,8 +188,9 @@ impl Run {
         if nothing {
             println!("accepted with steps 0 and grounded 0: {} times with an empty box, {} times with another", self.empty, self.still);
         }
+        let unbounded = self.ceilings.lack(told);
         let unseen = (0..WAYS.len()).any(|way| self.accepted[way] + self.refused[way] == 0) || self.sets.contains(&0) || nothing;
-        !seldom.is_empty() || !never.is_empty() || unseen
+        !seldom.is_empty() || !never.is_empty() || unseen || unbounded
     }
 
     fn list(&mut self, n: u64, most: u64) {
@@ -187,9 +211,12 @@ impl Run {
         if let Some(what) = self.compared.fault(&left, &after, &scratch) {
             self.differs(&format!("example {name}"), what, format!("{:?} instead of {:?}", left.answer, after.answer));
         }
+        if let Some(sheets) = old.and_then(|old| read(old, new)) {
+            self.hold(&format!("example {name}"), &sheets, &left.answer);
+        }
     }
 
-    /// Document 01's examples, each on pixels of its old sheet, and the calls whose counts are known.
+    /// Document 01's examples, each on pixels of its old sheet, and the calls whose counts and ceilings are known.
     fn examples(&mut self) {
         let mut random = Random(SEED + 9);
         for (i, p) in fixed::patches().iter().enumerate() {

@@ -4,17 +4,26 @@
 //! each answer being held to what the Rust gives. Then what a patch costs by the area of its box and by the number
 //! of items, what one patch of three shapes costs beside three patches of one, and what checking a sheet of about 60,000 bytes costs
 //! beside painting it, and measuring it beside checking it; and what a weight trace costs as one chain beside the same lines as items.
+//! Beside each patch stand the steps that it returned, which must be those of the Rust, and their ceiling, M × area.
 use calls::raw::{maldjupp_measure, maldjupp_paint, maldjupp_patch};
 use kash::gfx::Canvas;
-use sheets::{called, fixed, fixed_chains::chain, make, measure, paint, patch, Answer, Made, Sheet};
+use sheets::{called, fixed, fixed_chains::chain, make, measure, paint, patch, Answer, Ceiling, Made, Sheet};
 use std::{env, fs, hint::black_box, time::Instant};
 
 const ROUNDS: usize = 200;
 
-fn micros(least: &mut f64, work: impl FnOnce()) {
+fn micros<T>(least: &mut f64, work: impl FnOnce() -> T) -> T {
     let began = Instant::now();
-    work();
+    let given = work();
     *least = least.min(began.elapsed().as_nanos() as f64 / 1e3);
+    given
+}
+
+/// The steps that a patch to a sheet returned, and their ceiling.
+fn of_ceiling(new: &[u8], answer: &Answer) -> String {
+    let ceiling = Ceiling::of(&Sheet::read(new).expect("a sound sheet"), answer.reported());
+    assert_eq!((answer.number, ceiling.fault(answer)), (0, None), "{answer:?} with {ceiling:?}");
+    format!("{} of {}", answer.steps, ceiling.steps())
 }
 
 #[inline(never)]
@@ -58,20 +67,21 @@ fn weighing(n: usize) -> [Vec<u8>; 4] {
     })
 }
 
-/// The smallest times of painting a sheet and of patching it to another.
-fn costs(sheet: &[u8], other: &[u8]) -> [f64; 2] {
+/// The smallest times of painting a sheet and of patching it to another; and the patch's steps of their ceiling.
+fn costs(sheet: &[u8], other: &[u8]) -> ([f64; 2], String) {
     let mut px = vec![0u32; 640 * 400];
     let mut least = [f64::MAX; 2];
+    let patched = patch(sheet, other, px.len(), 0).on(&Sheet::read(sheet).expect("a sound sheet").fresh()).answer;
     for _ in 0..ROUNDS {
         let (p, m) = (px.as_mut_ptr(), px.len());
         let none = std::ptr::NonNull::<f32>::dangling().as_ptr();
         micros(&mut least[0], || assert_eq!(black_box(unsafe { maldjupp_paint(sheet.as_ptr(), sheet.len(), p, m, none, 0) }).number, 0));
-        micros(&mut least[1], || {
-            let answer = unsafe { maldjupp_patch(sheet.as_ptr(), sheet.len(), other.as_ptr(), other.len(), p, m, none, 0) };
-            assert_eq!(black_box(answer).number, 0);
+        let answer = micros(&mut least[1], || {
+            black_box(unsafe { maldjupp_patch(sheet.as_ptr(), sheet.len(), other.as_ptr(), other.len(), p, m, none, 0) })
         });
+        assert_eq!(answer, patched);
     }
-    least
+    (least, of_ceiling(other, &patched))
 }
 
 /// The smallest times of having a sheet refused by 8 after its checks, no pixels being lent, and of measuring it; the two in turn.
@@ -86,35 +96,38 @@ fn checks(sheet: &[u8]) -> [f64; 2] {
     least
 }
 
-/// The smallest times of the three patches from each of four sheets to the next, and of one patch from the first to the last; its box.
+/// The smallest times of the three patches from each of four sheets to the next, and of one patch from the first to the last; its answer.
 fn sets(sheets: &[Vec<u8>; 4]) -> ([f64; 4], Answer) {
     let read = sheets.each_ref().map(|s| Sheet::read(s).expect("a sound sheet"));
     let fresh = read.each_ref().map(Sheet::fresh);
     let mut px = fresh[0].clone();
     let mut scratch = vec![0f32; read.iter().map(Sheet::need).max().unwrap_or(0)];
     let mut least = [f64::MAX; 4];
-    let mut answer = None;
+    let pairs = [(0, 1), (1, 2), (2, 3), (0, 3)];
+    let answers = pairs.map(|(from, to)| patch(&sheets[from], &sheets[to], px.len(), scratch.len()).on(&fresh[from]).answer);
     for _ in 0..ROUNDS {
-        for (i, (from, to)) in [(0, 1), (1, 2), (2, 3), (0, 3)].into_iter().enumerate() {
+        for (i, (from, to)) in pairs.into_iter().enumerate() {
             px.copy_from_slice(&fresh[from]);
             let (old, new) = (&sheets[from], &sheets[to]);
-            micros(&mut least[i], || {
+            let answer = micros(&mut least[i], || {
                 let (p, m, s, k) = (px.as_mut_ptr(), px.len(), scratch.as_mut_ptr(), scratch.len());
-                answer = Some(black_box(unsafe { maldjupp_patch(old.as_ptr(), old.len(), new.as_ptr(), new.len(), p, m, s, k) }));
+                black_box(unsafe { maldjupp_patch(old.as_ptr(), old.len(), new.as_ptr(), new.len(), p, m, s, k) })
             });
-            assert_eq!(answer.map(|a| a.number), Some(0));
-            assert!(px == fresh[to]);
+            assert_eq!(answer, answers[i]);
+            assert!(answer.number == 0 && px == fresh[to]);
         }
     }
-    (least, answer.expect("a round"))
+    (least, answers[3])
 }
 
 fn sets_by_items(ticket: &[Vec<u8>; 4]) {
-    println!("\n| gross bar, tare bar and grade, box | three patches µs | one patch µs | ratio | target |\n|---|---|---|---|---|");
+    println!("\n| gross bar, tare bar and grade, box | three patches µs | one patch µs | ratio | target | its steps of ceiling |");
+    println!("|---|---|---|---|---|---|");
     let row = |name: &str, sheets: &[Vec<u8>; 4]| {
         let ([gross, tare, grade, at_once], area) = sets(sheets);
         let (three, w, h) = (gross + tare + grade, area.x1 - area.x0, area.y1 - area.y0);
-        println!("| {name}, {w} × {h} | {gross:.1} + {tare:.1} + {grade:.1} = {three:.1} | {at_once:.1} | {:.2} | 0.45 |", at_once / three);
+        let (sum, steps) = (format!("{gross:.1} + {tare:.1} + {grade:.1} = {three:.1}"), of_ceiling(&sheets[3], &area));
+        println!("| {name}, {w} × {h} | {sum} | {at_once:.1} | {:.2} | 0.45 | {steps} |", at_once / three);
     };
     for n in [20, 60, 200, 1000] {
         row(&format!("{n} items"), &weighing(n));
@@ -124,23 +137,26 @@ fn sets_by_items(ticket: &[Vec<u8>; 4]) {
 }
 
 fn sizes() {
-    println!("\n| patch, 60 items, box | painted µs | patched µs | ratio |\n|---|---|---|---|");
+    println!("\n| patch, 60 items, box | painted µs | patched µs | ratio | steps of ceiling |\n|---|---|---|---|---|");
+    let row = |name: &str, sheet: &[u8], other: &[u8]| {
+        let ([painted, patched], steps) = costs(sheet, other);
+        println!("| {name} | {painted:.1} | {patched:.1} | {:.3} | {steps} |", patched / painted);
+    };
     for side in [8, 32, 64, 128, 256] {
-        let [painted, patched] = costs(&fills(60, side as f32), &fills(60, side as f32 - 1.0));
-        println!("| {side} × {side} | {painted:.1} | {patched:.1} | {:.3} |", patched / painted);
+        row(&format!("{side} × {side}"), &fills(60, side as f32), &fills(60, side as f32 - 1.0));
     }
-    println!("\n| patch, box 32 × 32, items | painted µs | patched µs | ratio |\n|---|---|---|---|");
+    println!("\n| patch, box 32 × 32, items | painted µs | patched µs | ratio | steps of ceiling |\n|---|---|---|---|---|");
     for n in [10, 60, 200, 500, 1000] {
-        let [painted, patched] = costs(&fills(n, 32.0), &fills(n, 31.0));
-        println!("| {n} | {painted:.1} | {patched:.1} | {:.3} |", patched / painted);
+        row(&n.to_string(), &fills(n, 32.0), &fills(n, 31.0));
     }
     let sheet = fills(1000, 32.0);
-    println!("\n| patch between equal sheets, items | patched µs |\n|---|---|\n| 1000 | {:.1} |", costs(&sheet, &sheet)[1]);
+    let ([_, patched], steps) = costs(&sheet, &sheet);
+    println!("\n| patch between equal sheets, items | patched µs | steps of ceiling |\n|---|---|---|\n| 1000 | {patched:.1} | {steps} |");
 }
 
 fn largest() {
     let sheet = fills(1024, 32.0);
-    let ([painted, _], [checked, measured]) = (costs(&sheet, &sheet), checks(&sheet));
+    let (([painted, _], _), [checked, measured]) = (costs(&sheet, &sheet), checks(&sheet));
     println!("\n| sheet of {} bytes | µs |\n|---|---|\n| painted | {painted:.1} |", sheet.len());
     println!("| read and checked | {checked:.1}, {:.1} % |", 100.0 * checked / painted);
     println!("| measured | {measured:.1}, measuring / checking {:.2}, limit 1.5 |", measured / checked);
@@ -169,7 +185,7 @@ fn traced(m: usize, panel: u8, square: u8) -> [Vec<u8>; 2] {
 }
 
 /// The smallest times of a call with the sheets as chain and as lines, in turn, each on the pixels of the old sheet; and what they return.
-fn beside(old: [Vec<u8>; 2], new: [Vec<u8>; 2], patched: bool) -> ([f64; 2], [Answer; 2]) {
+fn beside(old: [Vec<u8>; 2], new: &[Vec<u8>; 2], patched: bool) -> ([f64; 2], [Answer; 2]) {
     let fresh = |sheet: &[u8]| Sheet::read(sheet).expect("a sound sheet").fresh();
     let (before, after) = (fresh(&old[0]), fresh(&new[0]));
     assert!(before == fresh(&old[1]) && after == fresh(&new[1]), "chain and lines have the same pixels");
@@ -192,12 +208,14 @@ fn beside(old: [Vec<u8>; 2], new: [Vec<u8>; 2], patched: bool) -> ([f64; 2], [An
 }
 
 fn traces() {
-    println!("\n| chain of 64 points beside 63 line items | chain µs | lines µs | ratio | target |\n|---|---|---|---|---|");
-    let row = |name: &str, old, new, patched, target: &str| {
-        let ([chain, lines], areas) = beside(old, new, patched);
-        let [one, other] = areas.map(|a| format!("{} × {}", a.x1 - a.x0, a.y1 - a.y0));
-        let area = if one == other { one } else { format!("{one} beside {other}") };
-        println!("| {name} {area} | {chain:.1} | {lines:.1} | {:.2} | {target} |", chain / lines);
+    println!("\n| chain of 64 points beside 63 line items | chain µs | lines µs | ratio | target | steps of ceiling |");
+    println!("|---|---|---|---|---|---|");
+    let each = |[one, other]: [String; 2]| if one == other { one } else { format!("{one} beside {other}") };
+    let row = |name: &str, old, new: [Vec<u8>; 2], patched, target: &str| {
+        let ([chain, lines], answers) = beside(old, &new, patched);
+        let area = each(answers.map(|a| format!("{} × {}", a.x1 - a.x0, a.y1 - a.y0)));
+        let steps = if patched { each([0, 1].map(|i| of_ceiling(&new[i], &answers[i]))) } else { String::new() };
+        println!("| {name} {area} | {chain:.1} | {lines:.1} | {:.2} | {target} | {steps} |", chain / lines);
     };
     let whole = || traced(64, 248, 230);
     row("painted,", whole(), whole(), false, "1.0");
@@ -236,13 +254,13 @@ fn ticket(bytes: &[Vec<u8>; 2]) {
         assert!(px == canvas.px);
     }
     let (n, area) = (sheets[0].items.len(), patching[0]);
-    println!("| ticket, {} × {}, {n} items | Rattle µs | Rust µs | ratio |", canvas.w, canvas.h);
-    println!("|---|---|---|---|");
-    println!("| painted | {painted:.0} | {rust:.0} | {:.2} |", painted / rust);
-    let (w, h) = (area.x1 - area.x0, area.y1 - area.y0);
-    println!("| patched, box {w} × {h}; the Rust paints it anew | {patched:.0} | {rust:.0} | {:.2} |", patched / rust);
+    println!("| ticket, {} × {}, {n} items | Rattle µs | Rust µs | ratio | steps of ceiling |", canvas.w, canvas.h);
+    println!("|---|---|---|---|---|");
+    println!("| painted | {painted:.0} | {rust:.0} | {:.2} |  |", painted / rust);
+    let (w, h, steps) = (area.x1 - area.x0, area.y1 - area.y0, of_ceiling(&bytes[1], &area));
+    println!("| patched, box {w} × {h}; the Rust paints it anew | {patched:.0} | {rust:.0} | {:.2} | {steps} |", patched / rust);
     let [checked, measured] = checks(&bytes[0]);
-    println!("| measured; read and checked alone {checked:.1} | {measured:.1} |  |  |");
+    println!("| measured; read and checked alone {checked:.1} | {measured:.1} |  |  |  |");
     busy(&painting[0], &patching[0], measure(&bytes[0]).pixels);
 }
 
