@@ -64,7 +64,13 @@ struct maldjupp_reply {
  *
  * Kinds 3 to 8 are shapes. Numbers are floats of four bytes, a colour is R G B A. A paint is its kind (that of a brush, below), three zeros, c0, c1
  * and four floats, with zero bytes for what its kind does not use. There are at most 64 points. A polyline is drawn as by maldjupp_polyline: a
- * joint is blended by both of its lines, so that with an alpha under 255 it shows. Among the shapes that differ in a patch it is one. */
+ * joint is blended by both of its lines, so that with an alpha under 255 it shows. Among the shapes that differ in a patch it is one.
+ *
+ * A shape's reach is its box before any clip. That of a fill or a stroke is its rectangle, of a shadow the rectangle with the blur added on
+ * every side, of a line the box around its ends with half the width and 1 added on every side, each rounded outward to whole pixels; of a
+ * polygon the box around its points, rounded outward, with a pixel more on every side; of a polyline the smallest box around those of its
+ * lines. It is empty for a fill or stroke of a rectangle without area, a stroke or shadow of alpha 0, a shadow without blur, and a polygon of
+ * under three points or with over 4,000,000 pixels in its box. */
 
 /* What painting a sheet takes. Refused, the last three are 0. */
 struct maldjupp_room {
@@ -85,7 +91,11 @@ struct maldjupp_reply maldjupp_paint(const uint8_t *sheet, size_t bytes, uint32_
 /* Patches pixels that show the old sheet to the new one. The two may differ in up to 32 shapes. Scratch is what the new sheet
  * needs; maldjupp_measure tells how many words. Accepted, the box is the smallest around these shapes, old and new, on the canvas, and no
  * pixel outside it is altered; the pixels are those that painting the new sheet gives, and the new sheet is the old one of the next patch.
- * Refused, nothing is altered, and the old sheet stays the old one. */
+ * Refused, nothing is altered, and the old sheet stays the old one.
+ *
+ * A ceiling to plan with, proved of every patch: `steps` is at most the area of the box times the number of shapes in the new sheet whose reach
+ * shares a pixel with the box, a polyline standing once for each of its lines whose reach does; `grounded` is at most the area, and an empty
+ * box has 0 for both. */
 struct maldjupp_reply maldjupp_patch(const uint8_t *old_sheet, size_t old_bytes, const uint8_t *new_sheet, size_t new_bytes,
                                      uint32_t *px, size_t pixels, float *scratch, size_t words);
 

@@ -245,6 +245,28 @@ fn paintings_and_patches_count_shape_after_shape() {
     assert!(patched > 1000 && not > 100 && empty > 50 && most > 2000, "{patched} {not} {empty} {most}");
 }
 
+/// In each patch every shape whose reach meets the box alters every pixel of it, and so does each line of the trace; the fill at columns 4 and 5
+/// does not meet columns 6 and 7. The ground alters every pixel too.
+#[test]
+fn a_patch_takes_as_many_steps_as_its_ceiling() {
+    let fill = |x: f32, w: f32, h: f32, color: Color| Shape::fill_rect(Rect::new(x, 0.0, w, h), color);
+    let trace = Shape::polyline(&[1.0, 3.0, 5.0, 7.0].map(|x| Pt::new(x, 2.0)), 64.0, Color::rgba(0, 0, 0, 128));
+    let mut b = SheetBuilder::new(8, 4, Color::BLACK).unwrap();
+    for shape in [fill(0.0, 8.0, 4.0, Color::WHITE), fill(0.0, 8.0, 4.0, Color::rgb(200, 0, 0)), trace] {
+        b.add(&shape).unwrap();
+    }
+    let (shapes, lines) = (2, 3);
+    let altered = Altered { area: IRect::new(0, 0, 8, 4), steps: (shapes + lines) * 8 * 4, grounded: 8 * 4 };
+    assert_eq!(Ticket::paint(&b).unwrap().replace(1, fill(0.0, 8.0, 4.0, Color::rgb(0, 200, 0))), Ok(altered));
+
+    b.add(&fill(4.0, 2.0, 1.0, Color::WHITE)).unwrap();
+    let last = b.add(&fill(6.0, 2.0, 1.0, Color::WHITE)).unwrap();
+    let mut ticket = Ticket::paint(&b).unwrap();
+    let altered = Altered { area: IRect::new(6, 0, 8, 1), steps: (shapes + lines + 1) * 2, grounded: 2 };
+    assert_eq!(ticket.replace(last, fill(6.0, 2.0, 1.0, Color::rgb(0, 0, 200))), Ok(altered));
+    assert_eq!(ticket.patch(ticket.sheet().to_vec()), Ok(Altered::default()));
+}
+
 #[test]
 fn altered_is_of_the_call_accepted_last() {
     let at = |x: f32| Shape::fill_rect(Rect::new(x, 0.0, 2.0, 1.0), Color::WHITE);
