@@ -24,8 +24,9 @@ const POLYLINE: u8 = 8;
 /// Its reach is its box before any clip. That of a fill or a stroke is its rectangle, of a shadow the rectangle with the blur added on every
 /// side, of a line the box around its ends with half the width and 1 added on every side, each rounded outward to whole pixels; of a polygon
 /// the box around its points, rounded outward, with a pixel more on every side; of a polyline the smallest box around those of its lines. It is
-/// empty for a fill or stroke of a rectangle without area, a stroke or shadow of alpha 0, a shadow without blur, and a polygon of under three
-/// points or with over 4,000,000 pixels in its box.
+/// empty where such a box has no pixel, as that of a line may by a negative width; and for a fill or stroke whose rectangle has a width or
+/// height of 0 or less, a stroke or shadow of alpha 0, a shadow whose blur is 0 or less, and a polygon of under three points or with over
+/// 4,000,000 pixels in its box.
 #[derive(Clone, Debug, PartialEq)]
 pub enum Shape {
     /// A filled rectangle with rounded corners.
