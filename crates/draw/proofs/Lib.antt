@@ -4,5 +4,6 @@ pub mod Onto
 pub mod Rows
 pub mod Loops
 pub mod Clips
+pub mod Frame
 pub mod Held
 pub mod Parts

@@ -2,8 +2,9 @@
 use geom::IRect;
 use geom::nat_of;
 ghost use mathlib.Core.Path.{_≡_};
-ghost use Prim.Native.Nat.{min, max};
+ghost use Prim.Native.Nat.{_≤_, min, max};
 ghost use Rattle.draw.specs.Areas.{areaOf, clipTo};
+ghost use Rattle.draw.specs.Frame.{pitchNumber, frameNumber};
 
 // A half-open box of pixels within the canvas: columns x0 up to x1, rows y0 up to y1.
 pub struct Area {
@@ -58,4 +59,24 @@ pub fn between(v: usize, lo: usize, hi: usize) -> usize
     ensures { λ r. ⌜ r ≡ max lo (min v hi) ⌝ }
 {
     larger(lo, smaller(v, hi))
+}
+
+// The number that a pitch is refused with, for a canvas of w columns: 15, or 0.
+pub fn pitch_number(w: usize, pitch: usize) -> u32
+    ensures { λ r. ⌜ r ≡ pitchNumber w pitch ⌝ }
+{
+    let ok = (w <= pitch) & (pitch <= 4096);
+    if ok { 0 } else { 15 }
+}
+
+// The number that px of n words is refused with, in rows of `pitch` words, for a canvas of w columns and h rows: 15, then 8, or 0.
+pub fn frame_number(w: usize, h: usize, pitch: usize, n: usize) -> u32
+    requires { ⌜ h ≤ 65535 ⌝ }
+    ensures { λ r. ⌜ r ≡ frameNumber w h pitch n ⌝ }
+{
+    let number = pitch_number(w, pitch);
+    if number != 0 {
+        return number;
+    }
+    if n == pitch * h { 0 } else { 8 }
 }

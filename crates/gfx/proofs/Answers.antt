@@ -6,13 +6,15 @@ use mathlib.Core.List.{List}
 use Prim.Native.Nat.{ℕ}
 use lib.Dec.{eqb}
 use borrow.Author.Tests.{eq-eqb, ne-eqb}
-use Rattle.gfx.specs.Calls.{answer, left, Called, CalledCounted, ShapeCalled, pixelAnswer}
+use Rattle.gfx.specs.Calls.{answer, left, Called, CalledCounted, ShapeCalled, boxAnswer, pixelAnswer}
 use Rattle.gfx.specs.declared.Canvas.{Canvas}
 use Rattle.gfx.specs.declared.Done.{Done}
+use Rattle.gfx.specs.declared.Boxed.{Boxed}
+use Rattle.geom.specs.declared.IRect.{IRect}
+use Rattle.geom.specs.Box.{noBox}
 use Rattle.draw.specs.Draw.{differ}
 use Rattle.draw.specs.Areas.{Drew}
 use Rattle.color.specs.declared.Pixel.{Pixel}
-pub use Rattle.geom.proofs.Refusals.{passed}
 
 -- a number and what goes with it
 done-is : {m n : ℕ} {a b : Canvas} → m ≡ n → a ≡ b → _≡_ {A = Done} (record { number = m; canvas = a }) (record { number = n; canvas = b })
@@ -20,6 +22,9 @@ done-is e f = rw (e, f)
 
 pixel-is : {m n a b : ℕ} → m ≡ n → a ≡ b → _≡_ {A = Pixel} (record { number = m; value = a }) (record { number = n; value = b })
 pixel-is e f = rw (e, f)
+
+box-is : {m n : ℕ} {a b : IRect} → m ≡ n → a ≡ b → _≡_ {A = Boxed} (record { number = m; area = a }) (record { number = n; area = b })
+box-is e f = rw (e, f)
 
 module _ {n m : ℕ} (e : m ≡ n) where
   module _ (k : m ≡ 0 → ⊥) where
@@ -34,6 +39,10 @@ module _ {n m : ℕ} (e : m ≡ n) where
     pub refused-pixel : (v : ℕ) → _≡_ {A = Pixel} (record { number = m; value = 0 }) (pixelAnswer n v)
     unfolding pixelAnswer
     refused-pixel v = pixel-is e (stays v 0)
+
+    pub refused-box : (b : IRect) → _≡_ {A = Boxed} (record { number = m; area = noBox }) (boxAnswer n b)
+    unfolding boxAnswer
+    refused-box b = box-is e (stays b noBox)
 
     pub refused-call : {given next : Canvas} {px drawn : List ℕ} → Called n given next px drawn (record { number = m; canvas = given }) px
     unfolding left
@@ -56,6 +65,10 @@ module _ {n m : ℕ} (e : m ≡ n) where
     pub accepted-pixel : (v : ℕ) → _≡_ {A = Pixel} (record { number = m; value = v }) (pixelAnswer n v)
     unfolding pixelAnswer
     accepted-pixel v = pixel-is e (follows v 0)
+
+    pub accepted-box : (b : IRect) → _≡_ {A = Boxed} (record { number = m; area = b }) (boxAnswer n b)
+    unfolding boxAnswer
+    accepted-box b = box-is e (follows b noBox)
 
     pub accepted-call : {given next : Canvas} {px drawn : List ℕ} → Called n given next px drawn (record { number = m; canvas = next }) drawn
     unfolding left

@@ -11,8 +11,8 @@ use borrow.Author.Tests.{leb-true}
 use lib.Seq.{drop-cons}
 use Rattle.geom.proofs.Bools.{and-left, and-right}
 use Rattle.geom.specs.Plane.{floatOk}
-use Rattle.gfx.proofs.Answers.{passed}
-use Rattle.gfx.proofs.Sizes.{Open, px-open, px-passed}
+use Rattle.geom.proofs.Refusals.{passed, then-passed}
+use Rattle.gfx.proofs.Sizes.{Open, px-open}
 use Rattle.gfx.specs.Calls.{unless, pxNumber}
 use Rattle.gfx.specs.Points.{pointsOk, coordsOk, pointsNumber}
 use Rattle.gfx.specs.declared.Canvas.{Canvas}
@@ -30,7 +30,7 @@ coords-done pts i h = rw (drop-of-length-le pts h)
 pub points-passed : (c : Canvas) (n : ℕ) (pts : List Float) (others : Bool) {t u : Bool} → pxNumber c n ≡ 0 → pointsOk pts ≡ t → (coordsOk pts && others) ≡ u
     → unless t 13 (unless u 6 0) ≡ pointsNumber c n pts others
 unfolding pointsNumber
-points-passed c n pts others e p f = rw (p, f) (px-passed c n _ e)
+points-passed c n pts others e p f = rw (p, f) (then-passed _ e)
 
 -- a call with points that is not refused
 pub record OpenPoints (c : Canvas) (n : ℕ) (pts : List Float) (others : Bool) : Type 0 where

@@ -1,4 +1,4 @@
--- Pushing and popping a clip leave a state sound: valid, with its 16 places. Assumes nothing.
+-- Pushing and popping a clip leave a state sound: valid, with its pitch in range and its 16 places. Assumes nothing.
 use mathlib.Core.Path.{_≡_, refl, sym, _∙_}
 use mathlib.Core.Bool.{true, cond, or-true, _&&_}
 use mathlib.Core.Logic.{⊎-elim}
@@ -19,13 +19,16 @@ use Rattle.gfx.proofs.Valid.{clip-meet, valid-of, of-valid, valid-depth
 use Rattle.gfx.specs.State.{inCanvas, rangeIn, sideOk, clipOk, bothZero, fourZeros, savedAt, placeOk, validOf, freshOf, pushed, unsaved, popped}
 use Rattle.geom.specs.Plane.{outerOf}
 use Rattle.geom.specs.declared.Rect.{Rect}
-use Rattle.gfx.proofs.Answers.{passed}
-use Rattle.gfx.proofs.Sizes.{push-room, push-box-room}
-use Rattle.gfx.specs.Calls.{raised, sizeNumber, newNumber, resizeNumber, sameSize, resized, pushBoxNumber, pushNumber}
+use Rattle.geom.specs.Int.{up}
+use Rattle.draw.specs.Frame.{pitchNumber}
+use Rattle.draw.proofs.Frame.{in-pitch}
+use Rattle.gfx.proofs.Sizes.{size-open, resize-new, push-room, push-box-room}
+use Rattle.gfx.specs.Calls.{raised, newNumber, resizeNumber, sameSize, resized, stateNumber, pushBoxNumber, pushNumber}
 use Rattle.gfx.specs.declared.Canvas.{Canvas}
 
 pub record Sound (c : Canvas) : Type 0 where
   pub valid : validOf c ≡ true
+  pub rows : pitchNumber (up (c .w)) (c .pitch) ≡ 0
   pub sized : length (c .saved) ≡ 16
 
 -- ---- a place in use, and a free one
@@ -71,6 +74,7 @@ module _ (c : Canvas) (b : IRect) (s : Sound c) (room : c .depth < 16) where
               clip = clip-meet (c .w) (c .h) (c .clip) b (v .clip);
               places = places-all (pushed c b) 16 push-place;
             });
+        rows = s .rows;
         sized = length-set (c .saved) (c .depth) (c .clip) ∙ s .sized;
       }
 
@@ -105,6 +109,7 @@ module _ (c : Canvas) (s : Sound c) (some : 0 < c .depth) where
               clip = sym (used c (c .depth - 1) (omega arith)) ∙ places-at c 16 (v .places) (c .depth - 1) (omega arith);
               places = places-all (unsaved c) 16 unsave-place;
             });
+        rows = s .rows;
         sized = length-set (c .saved) (c .depth - 1) noBox ∙ s .sized;
       }
 
@@ -117,51 +122,53 @@ pop-sound c s =
 
 -- ---- a canvas that is made anew
 
-module _ (w h : ℤ) (p : sideOk w ≡ true) (q : sideOk h ≡ true) where
+module _ (w h : ℤ) (pitch : ℕ) (p : sideOk w ≡ true) (q : sideOk h ≡ true) where
   whole : clipOk w h (boxOf (pos 0) (pos 0) w h) ≡ true
   unfolding clipOk inCanvas rangeIn
   whole =
       rw (le-leZ w w (omega arith), le-leZ h h (omega arith)) (or-true (empty (boxOf (pos 0) (pos 0) w h)))
 
-  fresh-place : (i : ℕ) → i < 16 → placeOk (freshOf w h) i ≡ true
+  fresh-place : (i : ℕ) → i < 16 → placeOk (freshOf w h pitch) i ≡ true
   unfolding freshOf fourZeros bothZero noBox
-  fresh-place i l = free (freshOf w h) i (omega arith) ∙ rw (getD-replicate 16 i noBox noBox l)
+  fresh-place i l = free (freshOf w h pitch) i (omega arith) ∙ rw (getD-replicate 16 i noBox noBox l)
 
-  pub fresh-sound : Sound (freshOf w h)
+  pub fresh-sound : pitchNumber (up w) pitch ≡ 0 → Sound (freshOf w h pitch)
   unfolding freshOf
-  fresh-sound =
+  fresh-sound r =
       record {
         valid =
-            of-valid (freshOf w h)
+            of-valid (freshOf w h pitch)
             (record {
               side-w = p;
               side-h = q;
               deep = refl;
               clip = whole;
-              places = places-all (freshOf w h) 16 fresh-place;
+              places = places-all (freshOf w h pitch) 16 fresh-place;
             });
+        rows = r;
         sized = refl;
       }
 
 -- ---- the calls: an accepted one returns a sound state, from a sound one where it takes one
 
-size-sound : (w h : ℤ) (n : ℕ) → sizeNumber w h n ≡ 0 → Sound (freshOf w h)
-unfolding sizeNumber
-size-sound w h n e =
-    let t = passed (sideOk w && sideOk h) 1 _ e .0 in
-    fresh-sound w h (and-left (sideOk w) (sideOk h) t) (and-right (sideOk w) (sideOk h) t)
-
-pub new-sound : (w h : ℤ) (n : ℕ) → newNumber w h n ≡ 0 → Sound (freshOf (raised w) (raised h))
-new-sound w h n e = size-sound (raised w) (raised h) n e
+pub new-sound : (w h : ℤ) (pitch n : ℕ) → newNumber w h pitch n ≡ 0 → Sound (freshOf (raised w) (raised h) pitch)
+new-sound w h pitch n e =
+    let z = size-open (up (raised w)) (raised w) (raised h) pitch n e in
+    fresh-sound (raised w) (raised h) pitch (z .side-w) (z .side-h) (in-pitch (z .frame .rows))
 
 pub resize-sound : (c : Canvas) (w h : ℤ) (n : ℕ) → Sound c → resizeNumber c w h n ≡ 0 → Sound (resized c w h)
-unfolding resizeNumber resized
+unfolding resized
 resize-sound c w h n s e =
-    split (sameSize c w h) (λ t. Sound (cond t c (freshOf (raised w) (raised h)))) (λ k. s)
-    (λ k. size-sound (raised w) (raised h) n (passed (validOf c) 11 _ e .1))
+    split (sameSize c w h) (λ t. Sound (cond t c (freshOf (raised w) (raised h) (c .pitch)))) (λ k. s)
+    (λ k. new-sound w h (c .pitch) n (resize-new c w h n e))
 
 pub push-clip-sound : (c : Canvas) (r : Rect) → Sound c → pushNumber c r ≡ 0 → Sound (pushed c (outerOf r))
 push-clip-sound c r s e = push-sound c (outerOf r) s (push-room c r e)
 
 pub push-clip-i-sound : (c : Canvas) (b : IRect) → Sound c → pushBoxNumber c ≡ 0 → Sound (pushed c b)
 push-clip-i-sound c b s e = push-sound c b s (push-box-room c e)
+
+-- no call refuses a sound state for itself
+pub sound-state : {c : Canvas} → Sound c → stateNumber c ≡ 0
+unfolding stateNumber
+sound-state s = rw (s .valid, s .rows)

@@ -24,11 +24,11 @@ steps-left {n} {px = px} {drawn = drawn} d = d .counts ∙ go (eqb n 0)
     go true = refl
     go false = sym (differ-same px)
 
--- no more than the accepted call has pixels
-pub few-left : (n : ℕ) (c : Canvas) (px drawn : List ℕ) → (n ≡ 0 → Open c (length px)) → differ px (left n px drawn) ≤ 4194304
+-- no more than the accepted call is lent words
+pub few-left : (n : ℕ) (c : Canvas) (px drawn : List ℕ) → (n ≡ 0 → Open c (length px)) → differ px (left n px drawn) ≤ 8388608
 unfolding left
 few-left n c px drawn o = go (eqb n 0) refl
   where
-    go : (t : Bool) → eqb n 0 ≡ t → differ px (cond t drawn px) ≤ 4194304
+    go : (t : Bool) → eqb n 0 ≡ t → differ px (cond t drawn px) ≤ 8388608
     go true e = omega (arith, differ-most px drawn, open-small (o (eqb-true n 0 e)))
     go false e = omega (arith, differ-same px)

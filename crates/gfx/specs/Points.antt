@@ -6,8 +6,7 @@ use lib.Dec.{leb, eqb}
 use lib.Ieee.{Float}
 use lib.ListN.{length}
 use Rattle.geom.specs.Plane.{floatOk}
-use Rattle.gfx.specs.State.{validOf}
-use Rattle.gfx.specs.Calls.{unless, areaOf}
+use Rattle.gfx.specs.Calls.{unless, andThen, pxNumber}
 use Rattle.gfx.specs.declared.Canvas.{Canvas}
 
 -- an even count of coordinates, of at most 64 points
@@ -19,10 +18,6 @@ unfoldable pub coordsOk : List Float → Bool
 coordsOk [] = true
 coordsOk (x ∷ xs) = floatOk x && coordsOk xs
 
--- a shape call with points on n lent pixels: 12, 8, 13, then 6, which reads every coordinate and, by `others`, the other floats given
+-- a shape call with points on n lent words: 12, 15, 8, 13, then 6, which reads every coordinate and, by `others`, the other floats given
 unfoldable pub pointsNumber : Canvas → ℕ → List Float → Bool → ℕ
-pointsNumber c n pts others =
-    unless (validOf c) 12
-    (unless (eqb n (areaOf (c .w) (c .h))) 8
-    (unless (pointsOk pts) 13
-    (unless (coordsOk pts && others) 6 0)))
+pointsNumber c n pts others = andThen (pxNumber c n) (unless (pointsOk pts) 13 (unless (coordsOk pts && others) 6 0))

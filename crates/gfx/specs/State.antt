@@ -1,4 +1,5 @@
--- The state of a canvas (document 01, "Canvas"): w and h 1 to 2,048, a clip, up to 16 saved clips. Refusal 12 is given for any other state.
+-- The state of a canvas (document 01, "Canvas"): w and h 1 to 2,048, a clip, up to 16 saved clips. Refusal 12 is given for any other state. Its pitch
+-- (document 02, 2026-07) is refused by 15 (draw specs/Frame).
 use mathlib.Core.Bool.{Bool, true, cond, _&&_, _||_}
 use Prim.Native.Nat.{ℕ, zero, suc, _+_, _-_}
 use lib.Dec.{leb, ltb, eqb}
@@ -51,14 +52,22 @@ frameOk c = sideOk (c .w) && sideOk (c .h) && leb (c .depth) 16 && clipOk (c .w)
 unfoldable pub validOf : Canvas → Bool
 validOf c = frameOk c && placesOk c 16
 
--- all of the canvas as clip, nothing saved; with two zeros it is the state of zeros
-unfoldable pub freshOf : ℤ → ℤ → Canvas
-freshOf w h = record { w = w; h = h; clip = boxOf (pos 0) (pos 0) w h; saved = replicate 16 noBox; depth = 0 }
+-- all of the canvas as clip, nothing saved; with three zeros it is the state of zeros
+unfoldable pub freshOf : ℤ → ℤ → ℕ → Canvas
+freshOf w h pitch =
+    record { w = w; h = h; pitch = pitch; clip = boxOf (pos 0) (pos 0) w h; saved = replicate 16 noBox; depth = 0 }
 
 -- `push_clip_i`: the clip is saved, and cut to b
 unfoldable pub pushed : Canvas → IRect → Canvas
 pushed c b =
-    record { w = c .w; h = c .h; clip = meet (c .clip) b; saved = set (c .saved) (c .depth) (c .clip); depth = c .depth + 1 }
+    record {
+      w = c .w;
+      h = c .h;
+      pitch = c .pitch;
+      clip = meet (c .clip) b;
+      saved = set (c .saved) (c .depth) (c .clip);
+      depth = c .depth + 1;
+    }
 
 -- `pop_clip` with something saved: back to the clip saved last, whose place holds zeros again
 unfoldable pub unsaved : Canvas → Canvas
@@ -66,6 +75,7 @@ unsaved c =
     record {
       w = c .w;
       h = c .h;
+      pitch = c .pitch;
       clip = savedAt c (c .depth - 1);
       saved = set (c .saved) (c .depth - 1) noBox;
       depth = c .depth - 1;

@@ -1,11 +1,11 @@
 // The tests behind the numbers of the canvas calls.
+use draw::frame_number;
 use geom::IRect;
 use geom::max_i;
 use geom::nat_of;
 ghost use mathlib.Core.Path.{_≡_};
-ghost use mathlib.Core.Bool.{true};
 ghost use Rattle.gfx.specs.State.{sideOk, rangeIn, inCanvas, clipOk, bothZero, fourZeros};
-ghost use Rattle.gfx.specs.Calls.{areaOf, raised, sizeNumber, newNumber};
+ghost use Rattle.gfx.specs.Calls.{raised, sizeNumber, newNumber};
 
 // A side is 1 to 2,048.
 pub(crate) fn side_ok(n: i32) -> bool
@@ -48,14 +48,6 @@ pub(crate) fn four_zeros(b: IRect) -> bool
     both_zero(b.x0, b.y0) && both_zero(b.x1, b.y1)
 }
 
-// The count of pixels of a canvas.
-pub(crate) fn area(w: i32, h: i32) -> usize
-    requires { ⌜ (sideOk w ≡ true) × (sideOk h ≡ true) ⌝ }
-    ensures { λ r. ⌜ r ≡ areaOf w h ⌝ }
-{
-    nat_of(w) * nat_of(h)
-}
-
 // A side below 1 is raised to 1.
 pub(crate) fn raise(n: i32) -> i32
     ensures { λ r. ⌜ r ≡ raised n ⌝ }
@@ -63,9 +55,9 @@ pub(crate) fn raise(n: i32) -> i32
     max_i(n, 1)
 }
 
-// The number that sides and a count of pixels are refused with, or 0.
-fn size_number(w: i32, h: i32, n: usize) -> u32
-    ensures { λ r. ⌜ r ≡ sizeNumber w h n ⌝ }
+// The number that sides, a pitch and a count of words are refused with, by the least pitch that is in range: 2, 15, 8, or 0.
+pub(crate) fn size_number(least: usize, w: i32, h: i32, pitch: usize, n: usize) -> u32
+    ensures { λ r. ⌜ r ≡ sizeNumber least w h pitch n ⌝ }
 {
     if !side_ok(w) {
         return 2;
@@ -73,12 +65,13 @@ fn size_number(w: i32, h: i32, n: usize) -> u32
     if !side_ok(h) {
         return 2;
     }
-    if n == area(w, h) { 0 } else { 8 }
+    frame_number(least, nat_of(h), pitch, n)
 }
 
-// The same of the sides raised.
-pub(crate) fn new_number(w: i32, h: i32, n: usize) -> u32
-    ensures { λ r. ⌜ r ≡ newNumber w h n ⌝ }
+// The same of the sides raised, for a canvas of its own.
+pub(crate) fn new_number(w: i32, h: i32, pitch: usize, n: usize) -> u32
+    ensures { λ r. ⌜ r ≡ newNumber w h pitch n ⌝ }
 {
-    size_number(raise(w), raise(h), n)
+    let a = raise(w);
+    size_number(nat_of(a), a, raise(h), pitch, n)
 }

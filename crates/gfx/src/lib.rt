@@ -3,35 +3,43 @@
 mod checks;
 pub mod points;
 
-use crate::checks::area;
 use crate::checks::clip_ok;
 use crate::checks::four_zeros;
 use crate::checks::new_number;
 use crate::checks::raise;
 use crate::checks::side_ok;
+use crate::checks::size_number;
 pub use crate::points::coords_ok;
 pub use crate::points::points_number;
 pub use crate::points::points_ok;
 use color::Color;
 use color::Pixel;
+use draw::frame_number;
+use draw::larger;
+use draw::pitch_number;
 use geom::IRect;
 use geom::Rect;
 use geom::nat_of;
 ghost use mathlib.Core.Path.{_≡_};
-ghost use Prim.Native.Nat.{_<_, _≤_};
-ghost use lib.ListN.{length, replicate};
+ghost use Prim.Native.Nat.{_+_, _*_, _<_, _≤_};
+ghost use lib.ListN.{length};
 ghost use Rattle.geom.specs.Plane.{outerOf};
 ghost use Rattle.geom.specs.Box.{boxOf};
+ghost use Rattle.geom.specs.Int.{up};
 ghost use Rattle.color.specs.Colours.{pixOf};
+ghost use Rattle.draw.specs.Areas.{RowFits, AreaFits, drawnIn, area};
+ghost use Rattle.draw.specs.Frame.{framed};
 ghost use lib.IntN.{pos};
 ghost use Rattle.gfx.specs.State.{placeOk, placesOk, frameOk, validOf, freshOf, pushed, unsaved, popped};
-ghost use Rattle.gfx.specs.Calls.{Called, answer, boxAnswer, pixelAnswer, raised, newNumber, resizeNumber, sameSize, resized, resizedPx, stateNumber, pushBoxNumber, pushNumber, pxNumber, shapeNumber, nearestIn, pixelAt};
+ghost use Rattle.gfx.specs.Calls.{Called, answer, boxAnswer, pixelAnswer, raised, newNumber, resizeNumber, sameSize, resized, resizedPx, stateNumber, pushBoxNumber, pushNumber, pxNumber, clearedTo, shapeNumber, nearestIn, pixelAt};
 
-// A canvas without its pixels: its sides, its clip, and up to 16 saved clips, of which `depth` are in use.
+// A canvas without its pixels: its sides, the words of a row of px, its clip, and up to 16 saved clips, of which `depth` are in use. The pixel in
+// column x and row y is the word y × pitch + x; words of a row past w are no pixels, and no call alters them.
 #[repr(C)]
 pub struct Canvas {
     pub w: i32,
     pub h: i32,
+    pub pitch: usize,
     pub clip: IRect,
     pub saved: [IRect; 16],
     pub depth: usize,
@@ -59,12 +67,24 @@ pub struct Boxed {
     pub area: IRect,
 }
 
-// Every pixel set to one value.
-fn fill(px: &mut [u32], v: u32)
-    ensures { λ _. ⌜ now (px .exit) ≡ replicate (length (now (px .entry))) v ⌝ }
+// The first w words of row y set to one value.
+fn store_row(px: &mut [u32], pitch: usize, y: usize, w: usize, v: u32)
+    requires { ⌜ RowFits pitch y 0 w (length (now px)) ⌝ }
+    ensures { λ _. ⌜ now (px .exit) ≡ drawnIn pitch (area 0 y w (y + 1)) (λ _ _ _. v) (now (px .entry)) ⌝ }
 {
-    for i in 0..px.len() {
-        px[i] = v;
+    let row = y * pitch;
+    for x in 0..w {
+        px[row + x] = v;
+    }
+}
+
+// The first w words of each of h rows set to one value.
+fn store_rows(px: &mut [u32], pitch: usize, w: usize, h: usize, v: u32)
+    requires { ⌜ AreaFits pitch (area 0 0 w h) (length (now px)) × (length (now px) ≡ pitch * h) ⌝ }
+    ensures { λ _. ⌜ now (px .exit) ≡ framed pitch w v (now (px .entry)) ⌝ }
+{
+    for y in 0..h {
+        store_row(px, pitch, y, w, v);
     }
 }
 
@@ -82,8 +102,8 @@ fn nearest_in(n: i32, x: i32) -> usize
 
 impl Canvas {
     // A canvas with all of it as clip and nothing saved.
-    fn fresh(w: i32, h: i32) -> Canvas
-        ensures { λ r. ⌜ r ≡ freshOf w h ⌝ }
+    fn fresh(w: i32, h: i32, pitch: usize) -> Canvas
+        ensures { λ r. ⌜ r ≡ freshOf w h pitch ⌝ }
     {
         let clip = IRect::new(0, 0, w, h);
         let zero = IRect::ZERO;
@@ -91,6 +111,7 @@ impl Canvas {
         Canvas {
             w,
             h,
+            pitch,
             clip,
             saved,
             depth: 0,
@@ -146,14 +167,24 @@ impl Canvas {
         self.frame_ok() && self.places_ok()
     }
 
-    // The number that a call on n lent pixels is refused with before it looks at its own arguments, or 0.
+    // The number that a call without pixels is refused with before it looks at its own arguments, or 0.
+    pub fn state_number(self) -> u32
+        ensures { λ r. ⌜ r ≡ stateNumber self ⌝ }
+    {
+        if !self.valid() {
+            return 12;
+        }
+        pitch_number(nat_of(self.w), self.pitch)
+    }
+
+    // The same of a call on n lent words.
     pub fn px_number(self, n: usize) -> u32
         ensures { λ r. ⌜ r ≡ pxNumber self n ⌝ }
     {
         if !self.valid() {
             return 12;
         }
-        if n == area(self.w, self.h) { 0 } else { 8 }
+        frame_number(nat_of(self.w), nat_of(self.h), self.pitch, n)
     }
 
     // The same of a shape call, by whether the floats given are finite and within 8,192 of 0.
@@ -167,23 +198,25 @@ impl Canvas {
         if ok { 0 } else { 6 }
     }
 
-    // The number that `resize` is refused with, or 0.
+    // The number that `resize` is refused with, or 0: the pitch must be neither below the width of the state nor below the one wanted.
     fn resize_number(self, w: i32, h: i32, n: usize) -> u32
         ensures { λ r. ⌜ r ≡ resizeNumber self w h n ⌝ }
     {
-        if self.valid() {
-            new_number(w, h, n)
-        } else {
-            12
+        if !self.valid() {
+            return 12;
         }
+        let a = raise(w);
+        let least = larger(nat_of(self.w), nat_of(a));
+        size_number(least, a, raise(h), self.pitch, n)
     }
 
     // The number that `push_clip_i` is refused with, or 0.
     fn push_box_number(self) -> u32
         ensures { λ r. ⌜ r ≡ pushBoxNumber self ⌝ }
     {
-        if !self.valid() {
-            return 12;
+        let number = self.state_number();
+        if number != 0 {
+            return number;
         }
         if self.depth < 16 { 0 } else { 7 }
     }
@@ -192,8 +225,9 @@ impl Canvas {
     fn push_number(self, r: Rect) -> u32
         ensures { λ n. ⌜ n ≡ pushNumber self r ⌝ }
     {
-        if !self.valid() {
-            return 12;
+        let number = self.state_number();
+        if number != 0 {
+            return number;
         }
         if !r.in_range() {
             return 6;
@@ -201,11 +235,15 @@ impl Canvas {
         if self.depth < 16 { 0 } else { 7 }
     }
 
-    // A new canvas with the sides raised.
-    fn blank(w: i32, h: i32) -> Canvas
-        ensures { λ r. ⌜ r ≡ freshOf (raised w) (raised h) ⌝ }
+    // A new canvas with the sides raised, its pixels set to zeros.
+    fn blank(w: i32, h: i32, pitch: usize, px: &mut [u32]) -> Canvas
+        requires { ⌜ newNumber w h pitch (length (now px)) ≡ 0 ⌝ }
+        ensures { λ r. ⌜ (r ≡ freshOf (raised w) (raised h) pitch) × (now (px .exit) ≡ framed pitch (up (raised w)) 0 (now (px .entry))) ⌝ }
     {
-        Canvas::fresh(raise(w), raise(h))
+        let a = raise(w);
+        let b = raise(h);
+        store_rows(px, pitch, nat_of(a), nat_of(b), 0);
+        Canvas::fresh(a, b, pitch)
     }
 
     // Whether the canvas has the sides w and h, raised.
@@ -229,6 +267,7 @@ impl Canvas {
         Canvas {
             w: self.w,
             h: self.h,
+            pitch: self.pitch,
             clip: clip.intersect(b),
             saved,
             depth: depth + 1,
@@ -247,6 +286,7 @@ impl Canvas {
         Canvas {
             w: self.w,
             h: self.h,
+            pitch: self.pitch,
             clip,
             saved,
             depth: d,
@@ -254,24 +294,21 @@ impl Canvas {
     }
 
     // A new canvas, whose pixels are zeros. A side below 1 is raised to 1.
-    pub fn new(w: i32, h: i32, px: &mut [u32]) -> Done
-        ensures { λ r. ⌜ Called (newNumber w h (length (now (px .entry)))) (freshOf (pos 0) (pos 0)) (freshOf (raised w) (raised h)) (now (px .entry)) (replicate (length (now (px .entry))) 0) r (now (px .exit)) ⌝ }
+    pub fn new(w: i32, h: i32, pitch: usize, px: &mut [u32]) -> Done
+        ensures { λ r. ⌜ Called (newNumber w h pitch (length (now (px .entry)))) (freshOf (pos 0) (pos 0) 0) (freshOf (raised w) (raised h) pitch) (now (px .entry)) (framed pitch (up (raised w)) 0 (now (px .entry))) r (now (px .exit)) ⌝ }
     {
-        let number = new_number(w, h, px.len());
+        let number = new_number(w, h, pitch, px.len());
         if number != 0 {
             return Done {
                 number,
-                canvas: Canvas::fresh(0, 0),
+                canvas: Canvas::fresh(0, 0, 0),
             };
         }
-        fill(px, 0);
-        Done {
-            number,
-            canvas: Canvas::blank(w, h),
-        }
+        let canvas = Canvas::blank(w, h, pitch, px);
+        Done { number, canvas }
     }
 
-    // Another size, whose pixels are zeros; the same size alters nothing. A side below 1 is raised to 1.
+    // Another size, whose pixels are zeros, in rows as long as before; the same size alters nothing. A side below 1 is raised to 1.
     pub fn resize(self, w: i32, h: i32, px: &mut [u32]) -> Done
         ensures { λ r. ⌜ Called (resizeNumber self w h (length (now (px .entry)))) self (resized self w h) (now (px .entry)) (resizedPx self w h (now (px .entry))) r (now (px .exit)) ⌝ }
     {
@@ -288,27 +325,24 @@ impl Canvas {
                 canvas: self,
             };
         }
-        fill(px, 0);
-        Done {
-            number,
-            canvas: Canvas::blank(w, h),
-        }
+        let canvas = Canvas::blank(w, h, self.pitch, px);
+        Done { number, canvas }
     }
 
     // The whole canvas.
     pub fn bounds(self) -> Boxed
         ensures { λ r. ⌜ r ≡ boxAnswer (stateNumber self) (boxOf (pos 0) (pos 0) (self .w) (self .h)) ⌝ }
     {
-        if self.valid() {
-            Boxed {
-                number: 0,
-                area: IRect::new(0, 0, self.w, self.h),
-            }
-        } else {
-            Boxed {
-                number: 12,
+        let number = self.state_number();
+        if number != 0 {
+            return Boxed {
+                number,
                 area: IRect::new(0, 0, 0, 0),
-            }
+            };
+        }
+        Boxed {
+            number,
+            area: IRect::new(0, 0, self.w, self.h),
         }
     }
 
@@ -316,15 +350,15 @@ impl Canvas {
     pub fn clip(self) -> Boxed
         ensures { λ r. ⌜ r ≡ boxAnswer (stateNumber self) (self .clip) ⌝ }
     {
-        if self.valid() {
-            let area = self.clip;
-            Boxed { number: 0, area }
-        } else {
-            Boxed {
-                number: 12,
+        let number = self.state_number();
+        if number != 0 {
+            return Boxed {
+                number,
                 area: IRect::new(0, 0, 0, 0),
-            }
+            };
         }
+        let area = self.clip;
+        Boxed { number, area }
     }
 
     // Save the clip, and cut it to the pixels around a rectangle.
@@ -361,25 +395,26 @@ impl Canvas {
     pub fn pop_clip(self) -> Done
         ensures { λ d. ⌜ d ≡ answer (stateNumber self) self (popped self) ⌝ }
     {
-        if !self.valid() {
+        let number = self.state_number();
+        if number != 0 {
             return Done {
-                number: 12,
+                number,
                 canvas: self,
             };
         }
         if self.depth == 0 {
             return Done {
-                number: 0,
+                number,
                 canvas: self,
             };
         }
         let canvas = self.unsave();
-        Done { number: 0, canvas }
+        Done { number, canvas }
     }
 
     // Every pixel set to a colour, whatever the clip.
     pub fn clear(self, px: &mut [u32], c: Color) -> Done
-        ensures { λ r. ⌜ Called (pxNumber self (length (now (px .entry)))) self self (now (px .entry)) (replicate (length (now (px .entry))) (pixOf c)) r (now (px .exit)) ⌝ }
+        ensures { λ r. ⌜ Called (pxNumber self (length (now (px .entry)))) self self (now (px .entry)) (clearedTo self (pixOf c) (now (px .entry))) r (now (px .exit)) ⌝ }
     {
         let number = self.px_number(px.len());
         if number != 0 {
@@ -388,7 +423,7 @@ impl Canvas {
                 canvas: self,
             };
         }
-        fill(px, c.pix());
+        store_rows(px, self.pitch, nat_of(self.w), nat_of(self.h), c.pix());
         Done {
             number,
             canvas: self,
@@ -403,7 +438,7 @@ impl Canvas {
         if number != 0 {
             return Pixel { number, value: 0 };
         }
-        let at = nearest_in(self.h, y) * nat_of(self.w) + nearest_in(self.w, x);
+        let at = nearest_in(self.h, y) * self.pitch + nearest_in(self.w, x);
         Pixel {
             number,
             value: px[at],

@@ -4,21 +4,19 @@ use denote.Ref.{now}
 use lib.ListN.{length}
 use Rattle.geom.proofs.Signed.{kept}
 use Rattle.gfx.proofs.Answers.{refused-call, accepted-call}
+use Rattle.gfx.proofs.Sizes.{resize-new}
 use Rattle.gfx.specs.Calls.{resizeNumber, sameSize, resized, resizedPx}
 use borrow.Author.Needs.{needs}
 use Rattle.gfx.proofs.Canvas.resize.Statement.{statement}
 use Rattle.gfx.proofs.Canvas.resize.Tie as tie
 
-number : (c : tie.After-resize-number) →
-    c .resize-number .result
-    ≡ resizeNumber (c .before .before .args .self) (c .before .before .args .w) (c .before .before .args .h) (length (now (c .before .before .args .px)))
+number : (c : tie.After-resize-number) → let st = c .before .before in
+    c .resize-number .result ≡ resizeNumber (st .args .self) (st .args .w) (st .args .h) (length (now (st .args .px)))
 number c =
     let st = c .before .before in
     simp (kept (st .args .w) (st .fits .w .sfits), kept (st .args .h) (st .fits .h .sfits)) at (c .resize-number .ensures)
 
-same : (c : tie.After-same-size) →
-    c .same-size .result
-    ≡ sameSize (c .before .before .before .before .args .self) (c .before .before .before .before .args .w) (c .before .before .before .before .args .h)
+same : (c : tie.After-same-size) → let st = c .before .before .before .before in c .same-size .result ≡ sameSize (st .args .self) (st .args .w) (st .args .h)
 same c =
     let st = c .before .before .before .before in
     simp (kept (st .args .w) (st .fits .w .sfits), kept (st .args .h) (st .fits .h .sfits)) at (c .same-size .ensures)
@@ -38,11 +36,12 @@ returns-2 c =
     let d = c .before .before in
     rw (sym (same (c .before)) ∙ c .if2 .taken) (accepted-call (number (d .before)) (d .if1 .left))
 
-fill-requires : tie.Need-fill-requires
-fill-requires c κs = search needs
-
 blank-requires : tie.Need-blank-requires
-blank-requires c κs = search needs
+blank-requires c κs =
+    let d = c .before .before .before in
+    let st = d .before .before .before in
+    simp (kept (st .args .w) (st .fits .w .sfits), kept (st .args .h) (st .fits .h .sfits))
+    (resize-new (st .args .self) (st .args .w) (st .args .h) _ (sym (number (d .before)) ∙ d .if1 .left))
 
 same-length : tie.Need-same-length
 same-length c = search needs
@@ -50,12 +49,12 @@ same-length c = search needs
 returns-3 : tie.Need-returns-3
 unfolding resized resizedPx
 returns-3 c =
-    let f = c .before .before .before in
-    let e = f .before .before in
+    let b = c .before .before in
+    let e = b .before .before in
     let d = e .before .before in
     let st = d .before .before .before in
-    let b = simp (kept (st .args .w) (st .fits .w .sfits), kept (st .args .h) (st .fits .h .sfits)) at (c .blank .ensures) in
-    rw (b, f .fill .ensures, sym (same (e .before)) ∙ e .if2 .left) (accepted-call (number (d .before)) (d .if1 .left))
+    let f = simp (kept (st .args .w) (st .fits .w .sfits), kept (st .args .h) (st .fits .h .sfits)) at (b .blank .ensures) in
+    rw (f .0, f .1, sym (same (e .before)) ∙ e .if2 .left) (accepted-call (number (d .before)) (d .if1 .left))
 
 pub resize-spec : {M : Type 1} → statement M
 resize-spec =
@@ -65,7 +64,6 @@ resize-spec =
     returns
     same-size-requires
     returns-2
-    fill-requires
     blank-requires
     same-length
     returns-3)

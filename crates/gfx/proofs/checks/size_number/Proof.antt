@@ -1,9 +1,12 @@
 -- `gfx::checks::size_number` meets its contract. Assumes nothing.
 use mathlib.Core.Path.{_≡_, _∙_, sym}
 use mathlib.Core.Bool.{true}
-use borrow.Author.Tests.{not-true, not-false, eq-eqb, ne-eqb}
+use native.Mathlib.Omega.{arith}
+use borrow.Author.Tests.{not-true, not-false}
+use Rattle.geom.specs.Int.{up}
 use Rattle.geom.proofs.Signed.{kept}
-use Rattle.gfx.specs.Calls.{areaOf, sizeNumber}
+use Rattle.gfx.proofs.Valid.{side-of}
+use Rattle.gfx.specs.Calls.{sizeNumber}
 use Rattle.gfx.specs.State.{sideOk}
 use borrow.Author.Needs.{needs}
 use Rattle.gfx.proofs.checks.size_number.Statement.{statement}
@@ -23,10 +26,10 @@ wide c = sym (side-w (c .before)) ∙ not-false _ (c .if1 .left)
 tall : (c : tie.Else2) → sideOk (c .before .before .before .before .args .h) ≡ true
 tall c = sym (side-h (c .before)) ∙ not-false _ (c .if2 .left)
 
-pixels : (c : tie.After-area) → c .area .result ≡ areaOf (c .before .before .before .before .before .args .w) (c .before .before .before .before .before .args .h)
-pixels c =
+rows : (c : tie.After-nat-of) → c .nat-of .result ≡ up (c .before .before .before .before .before .args .h)
+rows c =
     let st = c .before .before .before .before .before in
-    simp (kept (st .args .w) (st .fits .w .sfits), kept (st .args .h) (st .fits .h .sfits)) at (c .area .ensures)
+    simp (kept (st .args .h) (st .fits .h .sfits)) at (c .nat-of .ensures)
 
 side-ok-requires : tie.Need-side-ok-requires
 side-ok-requires c κs = search needs
@@ -41,26 +44,21 @@ side-ok-requires-2 c κs = search needs
 
 returns-2 : tie.Need-returns-2
 unfolding sizeNumber
-returns-2 c =
-    let d = c .before .before in
-    simp (wide d, sym (side-h (c .before)) ∙ not-true _ (c .if2 .taken))
+returns-2 c = simp (wide (c .before .before), sym (side-h (c .before)) ∙ not-true _ (c .if2 .taken))
 
-area-requires : tie.Need-area-requires
-area-requires c κs =
-    let st = c .before .before .before .before in
-    simp (kept (st .args .w) (st .fits .w .sfits), kept (st .args .h) (st .fits .h .sfits)) (wide (c .before .before), tall c)
+nat-of-requires : tie.Need-nat-of-requires
+nat-of-requires c κs = search needs
+
+frame-number-requires : tie.Need-frame-number-requires
+frame-number-requires c κs =
+    let d = c .before in
+    omega (arith, rows c, side-of (d .before .before .before .before .args .h) (tall d) .high)
 
 returns-3 : tie.Need-returns-3
 unfolding sizeNumber
 returns-3 c =
     let d = c .before .before in
-    simp (wide (d .before .before), tall d, eq-eqb _ _ (c .if3 .taken ∙ pixels (c .before)))
-
-returns-4 : tie.Need-returns-4
-unfolding sizeNumber
-returns-4 c =
-    let d = c .before .before in
-    simp (wide (d .before .before), tall d, ne-eqb _ _ (λ e. c .if3 .left (e ∙ sym (pixels (c .before)))))
+    c .frame-number .ensures ∙ simp (rows (c .before), wide (d .before .before), tall d)
 
 pub size-number-spec : {M : Type 1} → statement M
 size-number-spec =
@@ -70,6 +68,6 @@ size-number-spec =
     returns
     side-ok-requires-2
     returns-2
-    area-requires
-    returns-3
-    returns-4)
+    nat-of-requires
+    frame-number-requires
+    returns-3)

@@ -3,7 +3,7 @@ use mathlib.Core.Path.{refl, _∙_, sym}
 use borrow.Author.Needs.{needs}
 use borrow.Author.Tests.{not-true, not-false}
 use Rattle.gfx.proofs.Coords.{points-passed}
-use Rattle.gfx.proofs.Sizes.{px-refused}
+use Rattle.geom.proofs.Refusals.{then-refused}
 use Rattle.gfx.specs.Points.{pointsNumber}
 use Rattle.gfx.proofs.points.points_number.Statement.{statement}
 use Rattle.gfx.proofs.points.points_number.Tie as tie
@@ -13,7 +13,7 @@ px-number-requires c κs = search needs
 
 returns : tie.Need-returns
 unfolding pointsNumber
-returns c = px-refused _ _ _ (c .before .px-number .ensures) (c .if1 .taken)
+returns c = then-refused _ (c .before .px-number .ensures) (c .if1 .taken)
 
 points-ok-requires : tie.Need-points-ok-requires
 points-ok-requires c κs = search needs
