@@ -10,7 +10,6 @@ use Rattle.mathf.specs.Whole.{floorOf, ceilOf}
 use Rattle.mathf.specs.Convert.{toI32}
 use Rattle.geom.specs.declared.Rect.{Rect}
 use Rattle.geom.specs.declared.IRect.{IRect}
-use Rattle.geom.specs.Int.{up}
 use Rattle.geom.specs.Box.{noBox}
 use Rattle.geom.specs.Plane.{rightOf, bottomOf, cxOf, cyOf, noArea, outerOf, floatOk, rectOk}
 use Rattle.color.specs.Inks.{over, overC}
@@ -75,7 +74,7 @@ fillInk rect r paint = roundInk rect (radiusOf rect r) paint
 -- it came, the answer, and px as it is left
 abbrev pub Filled : Canvas → Bool → Rect → Float → Paint → List ℕ → Counted → List ℕ → Type 0
 Filled canvas ok rect r paint px =
-    ShapeCalled (shapeNumber canvas (length px) ok) canvas px (drawn (up (canvas .w)) (canvas .clip) (fillReach rect) (fillInk rect r paint) px)
+    ShapeCalled (shapeNumber canvas (length px) ok) canvas px (drawn (canvas .pitch) (canvas .clip) (fillReach rect) (fillInk rect r paint) px)
 
 -- the limit reads the numbers given to each call
 abbrev pub rrectFloats : Rect → Float → Paint → Bool

@@ -198,7 +198,7 @@ fn colour_at(paint: Paint, xc: f32, yc: f32) -> Color
 // Columns of row y by coverage: a root is taken only near the edge.
 fn rim(
     px: &mut [u32],
-    w: usize,
+    pitch: usize,
     y: usize,
     x0: usize,
     x1: usize,
@@ -207,10 +207,10 @@ fn rim(
     l: Level,
     paint: Paint,
 ) -> u32
-    requires { ⌜ RowFits w y x0 x1 (length (now px)) × Sure (e .r) e × LevelOf rect (e .r) (centreOf y) l ⌝ }
-    ensures { λ n. ⌜ DrewRow w y x0 x1 (rimInk rect (e .r) paint) (now (px .entry)) n (now (px .exit)) ⌝ }
+    requires { ⌜ RowFits pitch y x0 x1 (length (now px)) × Sure (e .r) e × LevelOf rect (e .r) (centreOf y) l ⌝ }
+    ensures { λ n. ⌜ DrewRow pitch y x0 x1 (rimInk rect (e .r) paint) (now (px .entry)) n (now (px .exit)) ⌝ }
 {
-    let row = y * w;
+    let row = y * pitch;
     let yc = centre(y as u16);
     let mut n = 0;
     for x in x0..x1 {
@@ -229,11 +229,11 @@ fn rim(
 }
 
 // Columns of row y set to one value.
-fn store_span(px: &mut [u32], w: usize, y: usize, x0: usize, x1: usize, v: u32) -> u32
-    requires { ⌜ RowFits w y x0 x1 (length (now px)) ⌝ }
-    ensures { λ n. ⌜ DrewRow w y x0 x1 (λ _ _ _. v) (now (px .entry)) n (now (px .exit)) ⌝ }
+fn store_span(px: &mut [u32], pitch: usize, y: usize, x0: usize, x1: usize, v: u32) -> u32
+    requires { ⌜ RowFits pitch y x0 x1 (length (now px)) ⌝ }
+    ensures { λ n. ⌜ DrewRow pitch y x0 x1 (λ _ _ _. v) (now (px .entry)) n (now (px .exit)) ⌝ }
 {
-    let row = y * w;
+    let row = y * pitch;
     let mut n = 0;
     for x in x0..x1 {
         let i = row + x;
@@ -245,11 +245,11 @@ fn store_span(px: &mut [u32], w: usize, y: usize, x0: usize, x1: usize, v: u32) 
 }
 
 // Columns of row y under a colour.
-fn over_span(px: &mut [u32], w: usize, y: usize, x0: usize, x1: usize, c: Color) -> u32
-    requires { ⌜ RowFits w y x0 x1 (length (now px)) ⌝ }
-    ensures { λ n. ⌜ DrewRow w y x0 x1 (middleInk (Solid c)) (now (px .entry)) n (now (px .exit)) ⌝ }
+fn over_span(px: &mut [u32], pitch: usize, y: usize, x0: usize, x1: usize, c: Color) -> u32
+    requires { ⌜ RowFits pitch y x0 x1 (length (now px)) ⌝ }
+    ensures { λ n. ⌜ DrewRow pitch y x0 x1 (middleInk (Solid c)) (now (px .entry)) n (now (px .exit)) ⌝ }
 {
-    let row = y * w;
+    let row = y * pitch;
     let a = c.a as u32;
     let mut n = 0;
     for x in x0..x1 {
@@ -264,7 +264,7 @@ fn over_span(px: &mut [u32], w: usize, y: usize, x0: usize, x1: usize, c: Color)
 // Columns of row y under a linear gradient.
 fn line_span(
     px: &mut [u32],
-    w: usize,
+    pitch: usize,
     y: usize,
     x0: usize,
     x1: usize,
@@ -273,10 +273,10 @@ fn line_span(
     c0: Color,
     c1: Color,
 ) -> u32
-    requires { ⌜ RowFits w y x0 x1 (length (now px)) ⌝ }
-    ensures { λ n. ⌜ DrewRow w y x0 x1 (middleInk (Linear p0 p1 c0 c1)) (now (px .entry)) n (now (px .exit)) ⌝ }
+    requires { ⌜ RowFits pitch y x0 x1 (length (now px)) ⌝ }
+    ensures { λ n. ⌜ DrewRow pitch y x0 x1 (middleInk (Linear p0 p1 c0 c1)) (now (px .entry)) n (now (px .exit)) ⌝ }
 {
-    let row = y * w;
+    let row = y * pitch;
     let yc = centre(y as u16);
     let mut n = 0;
     for x in x0..x1 {
@@ -290,11 +290,11 @@ fn line_span(
 }
 
 // Columns of row y under a paint, which is asked at each pixel.
-fn paint_span(px: &mut [u32], w: usize, y: usize, x0: usize, x1: usize, paint: Paint) -> u32
-    requires { ⌜ RowFits w y x0 x1 (length (now px)) ⌝ }
-    ensures { λ n. ⌜ DrewRow w y x0 x1 (middleInk paint) (now (px .entry)) n (now (px .exit)) ⌝ }
+fn paint_span(px: &mut [u32], pitch: usize, y: usize, x0: usize, x1: usize, paint: Paint) -> u32
+    requires { ⌜ RowFits pitch y x0 x1 (length (now px)) ⌝ }
+    ensures { λ n. ⌜ DrewRow pitch y x0 x1 (middleInk paint) (now (px .entry)) n (now (px .exit)) ⌝ }
 {
-    let row = y * w;
+    let row = y * pitch;
     let yc = centre(y as u16);
     let mut n = 0;
     for x in x0..x1 {
@@ -308,43 +308,43 @@ fn paint_span(px: &mut [u32], w: usize, y: usize, x0: usize, x1: usize, paint: P
 }
 
 // Columns of row y under a colour: plain stores at full alpha, nothing at alpha 0.
-fn solid_span(px: &mut [u32], w: usize, y: usize, x0: usize, x1: usize, c: Color) -> u32
-    requires { ⌜ RowFits w y x0 x1 (length (now px)) ⌝ }
-    ensures { λ n. ⌜ DrewRow w y x0 x1 (middleInk (Solid c)) (now (px .entry)) n (now (px .exit)) ⌝ }
+fn solid_span(px: &mut [u32], pitch: usize, y: usize, x0: usize, x1: usize, c: Color) -> u32
+    requires { ⌜ RowFits pitch y x0 x1 (length (now px)) ⌝ }
+    ensures { λ n. ⌜ DrewRow pitch y x0 x1 (middleInk (Solid c)) (now (px .entry)) n (now (px .exit)) ⌝ }
 {
     if c.a == 255 {
-        return store_span(px, w, y, x0, x1, c.pix());
+        return store_span(px, pitch, y, x0, x1, c.pix());
     }
     if c.a > 0 {
-        return over_span(px, w, y, x0, x1, c);
+        return over_span(px, pitch, y, x0, x1, c);
     }
     0
 }
 
 // The middle of row y, by the kind of its paint.
-fn middle_span(px: &mut [u32], w: usize, y: usize, x0: usize, x1: usize, paint: Paint) -> u32
-    requires { ⌜ RowFits w y x0 x1 (length (now px)) ⌝ }
-    ensures { λ n. ⌜ DrewRow w y x0 x1 (middleInk paint) (now (px .entry)) n (now (px .exit)) ⌝ }
+fn middle_span(px: &mut [u32], pitch: usize, y: usize, x0: usize, x1: usize, paint: Paint) -> u32
+    requires { ⌜ RowFits pitch y x0 x1 (length (now px)) ⌝ }
+    ensures { λ n. ⌜ DrewRow pitch y x0 x1 (middleInk paint) (now (px .entry)) n (now (px .exit)) ⌝ }
 {
     match paint {
-        Paint::Solid(c) => solid_span(px, w, y, x0, x1, c),
-        Paint::Linear { p0, p1, c0, c1 } => line_span(px, w, y, x0, x1, p0, p1, c0, c1),
-        _ => paint_span(px, w, y, x0, x1, paint),
+        Paint::Solid(c) => solid_span(px, pitch, y, x0, x1, c),
+        Paint::Linear { p0, p1, c0, c1 } => line_span(px, pitch, y, x0, x1, p0, p1, c0, c1),
+        _ => paint_span(px, pitch, y, x0, x1, paint),
     }
 }
 
 // Row y between the columns x0 and x1: rim, middle, rim.
 fn row_parts(
     px: &mut [u32],
-    w: usize,
+    pitch: usize,
     y: usize,
     x0: usize,
     x1: usize,
     s: Round,
     paint: Paint,
 ) -> u32
-    requires { ⌜ RowFits w y x0 x1 (length (now px)) × Ready s ⌝ }
-    ensures { λ n. ⌜ DrewRow w y x0 x1 (roundInk (s .rect) (s .edge .r) paint) (now (px .entry)) n (now (px .exit)) ⌝ }
+    requires { ⌜ RowFits pitch y x0 x1 (length (now px)) × Ready s ⌝ }
+    ensures { λ n. ⌜ DrewRow pitch y x0 x1 (roundInk (s .rect) (s .edge .r) paint) (now (px .entry)) n (now (px .exit)) ⌝ }
 {
     let rect = s.rect;
     let e = s.edge;
@@ -352,52 +352,60 @@ fn row_parts(
     let l = level_of(rect, e.r, y);
     let lend = c.le;
     let rstart = c.rs;
-    let left = rim(px, w, y, x0, lend, rect, e, l, paint);
-    let middle = middle_span(px, w, y, lend, rstart, paint);
-    let right = rim(px, w, y, rstart, x1, rect, e, l, paint);
+    let left = rim(px, pitch, y, x0, lend, rect, e, l, paint);
+    let middle = middle_span(px, pitch, y, lend, rstart, paint);
+    let right = rim(px, pitch, y, rstart, x1, rect, e, l, paint);
     left + middle + right
 }
 
 // The same by the paint as the row has it.
-fn fill_row(px: &mut [u32], w: usize, y: usize, x0: usize, x1: usize, s: Round, paint: Paint) -> u32
-    requires { ⌜ RowFits w y x0 x1 (length (now px)) × Ready s ⌝ }
-    ensures { λ n. ⌜ DrewRow w y x0 x1 (roundInk (s .rect) (s .edge .r) paint) (now (px .entry)) n (now (px .exit)) ⌝ }
+fn fill_row(
+    px: &mut [u32],
+    pitch: usize,
+    y: usize,
+    x0: usize,
+    x1: usize,
+    s: Round,
+    paint: Paint,
+) -> u32
+    requires { ⌜ RowFits pitch y x0 x1 (length (now px)) × Ready s ⌝ }
+    ensures { λ n. ⌜ DrewRow pitch y x0 x1 (roundInk (s .rect) (s .edge .r) paint) (now (px .entry)) n (now (px .exit)) ⌝ }
 {
     let here = paint.in_row(centre(y as u16));
-    row_parts(px, w, y, x0, x1, s, here)
+    row_parts(px, pitch, y, x0, x1, s, here)
 }
 
 // The rows of an area.
-fn fill_box(px: &mut [u32], w: usize, bb: Area, s: Round, paint: Paint) -> u32
-    requires { ⌜ AreaFits w bb (length (now px)) × Ready s ⌝ }
-    ensures { λ n. ⌜ DrewIn w bb (roundInk (s .rect) (s .edge .r) paint) (now (px .entry)) n (now (px .exit)) ⌝ }
+fn fill_box(px: &mut [u32], pitch: usize, bb: Area, s: Round, paint: Paint) -> u32
+    requires { ⌜ AreaFits pitch bb (length (now px)) × Ready s ⌝ }
+    ensures { λ n. ⌜ DrewIn pitch bb (roundInk (s .rect) (s .edge .r) paint) (now (px .entry)) n (now (px .exit)) ⌝ }
 {
     let x0 = bb.x0;
     let x1 = bb.x1;
     let mut n = 0;
     for y in bb.y0..bb.y1 {
-        n += fill_row(px, w, y, x0, x1, s, paint);
+        n += fill_row(px, pitch, y, x0, x1, s, paint);
     }
     n
 }
 
 // An area of a rounded rectangle: what its rows share is worked out first.
-fn fill_all(px: &mut [u32], w: usize, bb: Area, rect: Rect, r: f32, paint: Paint) -> u32
-    requires { ⌜ AreaFits w bb (length (now px)) ⌝ }
-    ensures { λ n. ⌜ DrewIn w bb (fillInk rect r paint) (now (px .entry)) n (now (px .exit)) ⌝ }
+fn fill_all(px: &mut [u32], pitch: usize, bb: Area, rect: Rect, r: f32, paint: Paint) -> u32
+    requires { ⌜ AreaFits pitch bb (length (now px)) ⌝ }
+    ensures { λ n. ⌜ DrewIn pitch bb (fillInk rect r paint) (now (px .entry)) n (now (px .exit)) ⌝ }
 {
     let short = radius(rect, r);
     let s = round_of(rect, short);
-    fill_box(px, w, bb, s, paint)
+    fill_box(px, pitch, bb, s, paint)
 }
 
 // The same, where the area has rows.
-fn fill_area(px: &mut [u32], w: usize, bb: Area, rect: Rect, r: f32, paint: Paint) -> u32
-    requires { ⌜ AreaFits w bb (length (now px)) ⌝ }
-    ensures { λ n. ⌜ DrewIn w bb (fillInk rect r paint) (now (px .entry)) n (now (px .exit)) ⌝ }
+fn fill_area(px: &mut [u32], pitch: usize, bb: Area, rect: Rect, r: f32, paint: Paint) -> u32
+    requires { ⌜ AreaFits pitch bb (length (now px)) ⌝ }
+    ensures { λ n. ⌜ DrewIn pitch bb (fillInk rect r paint) (now (px .entry)) n (now (px .exit)) ⌝ }
 {
     if bb.y0 < bb.y1 {
-        return fill_all(px, w, bb, rect, r, paint);
+        return fill_all(px, pitch, bb, rect, r, paint);
     }
     0
 }
@@ -414,10 +422,10 @@ fn filled(canvas: Canvas, px: &mut [u32], ok: bool, rect: Rect, r: f32, paint: P
             steps: 0,
         };
     }
-    let w = nat_of(canvas.w);
+    let pitch = canvas.pitch;
     let clip = canvas.clip;
     let bb = clipped(fill_reach(rect), clip);
-    let steps = fill_area(px, w, bb, rect, r, paint) as u64;
+    let steps = fill_area(px, pitch, bb, rect, r, paint) as u64;
     Counted {
         number,
         canvas,
@@ -458,22 +466,22 @@ pub fn fill_circle(
 }
 
 // The pixels of an area set to one value.
-fn store_box(px: &mut [u32], w: usize, bb: Area, v: u32) -> u32
-    requires { ⌜ AreaFits w bb (length (now px)) ⌝ }
-    ensures { λ n. ⌜ DrewIn w bb (λ _ _ _. v) (now (px .entry)) n (now (px .exit)) ⌝ }
+fn store_box(px: &mut [u32], pitch: usize, bb: Area, v: u32) -> u32
+    requires { ⌜ AreaFits pitch bb (length (now px)) ⌝ }
+    ensures { λ n. ⌜ DrewIn pitch bb (λ _ _ _. v) (now (px .entry)) n (now (px .exit)) ⌝ }
 {
     let x0 = bb.x0;
     let x1 = bb.x1;
     let mut n = 0;
     for y in bb.y0..bb.y1 {
-        n += store_span(px, w, y, x0, x1, v);
+        n += store_span(px, pitch, y, x0, x1, v);
     }
     n
 }
 
 // The pixels of the clip set to a colour, as a sheet's ground is, whatever its alpha.
 pub fn fill_ground(canvas: Canvas, px: &mut [u32], c: Color) -> Counted
-    ensures { λ d. ⌜ ShapeCalled (pxNumber canvas (length (now (px .entry)))) canvas (now (px .entry)) (drawn (up (canvas .w)) (canvas .clip) (canvas .clip) (λ _ _ _. pixOf c) (now (px .entry))) d (now (px .exit)) ⌝ }
+    ensures { λ d. ⌜ ShapeCalled (pxNumber canvas (length (now (px .entry)))) canvas (now (px .entry)) (drawn (canvas .pitch) (canvas .clip) (canvas .clip) (λ _ _ _. pixOf c) (now (px .entry))) d (now (px .exit)) ⌝ }
 {
     let number = canvas.px_number(px.len());
     if number != 0 {
@@ -483,11 +491,11 @@ pub fn fill_ground(canvas: Canvas, px: &mut [u32], c: Color) -> Counted
             steps: 0,
         };
     }
-    let w = nat_of(canvas.w);
+    let pitch = canvas.pitch;
     let clip = canvas.clip;
     let bb = clipped(clip, clip);
     let v = c.pix();
-    let steps = store_box(px, w, bb, v) as u64;
+    let steps = store_box(px, pitch, bb, v) as u64;
     Counted {
         number,
         canvas,

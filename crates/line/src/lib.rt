@@ -9,7 +9,6 @@ use geom::Pt;
 use geom::Rect;
 use geom::float_ok;
 use geom::join;
-use geom::nat_of;
 use gfx::Canvas;
 use gfx::Counted;
 use gfx::points_number;
@@ -19,7 +18,6 @@ ghost use mathlib.Core.Path.{_≡_};
 ghost use Prim.Native.Nat.{_/_, _<_, _≤_};
 ghost use lib.ListN.{length};
 ghost use Rattle.geom.specs.declared.IRect.{IRect};
-ghost use Rattle.geom.specs.Int.{up};
 ghost use Rattle.geom.specs.Plane.{floatOk};
 ghost use Rattle.color.specs.declared.Color.{Color};
 ghost use Rattle.draw.specs.Draw.{drawn};
@@ -96,7 +94,7 @@ fn cover(s: Segment, e: Edge, xc: f32, yc: f32) -> u32
 // A part of row y.
 fn segment_row(
     px: &mut [u32],
-    w: usize,
+    pitch: usize,
     y: usize,
     x0: usize,
     x1: usize,
@@ -104,11 +102,11 @@ fn segment_row(
     e: Edge,
     color: Color,
 ) -> u32
-    requires { ⌜ RowFits w y x0 x1 (length (now px)) ⌝ }
+    requires { ⌜ RowFits pitch y x0 x1 (length (now px)) ⌝ }
     requires { ⌜ Sure (s .hw) e ⌝ }
-    ensures { λ n. ⌜ DrewRow w y x0 x1 (segmentInk s color) (now (px .entry)) n (now (px .exit)) ⌝ }
+    ensures { λ n. ⌜ DrewRow pitch y x0 x1 (segmentInk s color) (now (px .entry)) n (now (px .exit)) ⌝ }
 {
-    let row = y * w;
+    let row = y * pitch;
     let yc = centre(y as u16);
     let mut n = 0;
     for x in x0..x1 {
@@ -125,10 +123,10 @@ fn segment_row(
 }
 
 // The pixels of an area, row by row.
-fn segment_box(px: &mut [u32], w: usize, bb: Area, s: Segment, e: Edge, color: Color) -> u32
-    requires { ⌜ AreaFits w bb (length (now px)) ⌝ }
+fn segment_box(px: &mut [u32], pitch: usize, bb: Area, s: Segment, e: Edge, color: Color) -> u32
+    requires { ⌜ AreaFits pitch bb (length (now px)) ⌝ }
     requires { ⌜ Sure (s .hw) e ⌝ }
-    ensures { λ n. ⌜ DrewIn w bb (segmentInk s color) (now (px .entry)) n (now (px .exit)) ⌝ }
+    ensures { λ n. ⌜ DrewIn pitch bb (segmentInk s color) (now (px .entry)) n (now (px .exit)) ⌝ }
 {
     let x0 = bb.x0;
     let x1 = bb.x1;
@@ -136,28 +134,36 @@ fn segment_box(px: &mut [u32], w: usize, bb: Area, s: Segment, e: Edge, color: C
     let y1 = bb.y1;
     let mut n = 0;
     for y in y0..y1 {
-        n += segment_row(px, w, y, x0, x1, s, e, color);
+        n += segment_row(px, pitch, y, x0, x1, s, e, color);
     }
     n
 }
 
 // An area of a line: what its rows share is worked out first.
-fn line_all(px: &mut [u32], w: usize, bb: Area, a: Pt, b: Pt, width: f32, color: Color) -> u32
-    requires { ⌜ AreaFits w bb (length (now px)) ⌝ }
-    ensures { λ n. ⌜ DrewIn w bb (lineInk a b width color) (now (px .entry)) n (now (px .exit)) ⌝ }
+fn line_all(px: &mut [u32], pitch: usize, bb: Area, a: Pt, b: Pt, width: f32, color: Color) -> u32
+    requires { ⌜ AreaFits pitch bb (length (now px)) ⌝ }
+    ensures { λ n. ⌜ DrewIn pitch bb (lineInk a b width color) (now (px .entry)) n (now (px .exit)) ⌝ }
 {
     let s = segment_of(a, b, width);
-    segment_box(px, w, bb, s, Edge::of(s.hw), color)
+    segment_box(px, pitch, bb, s, Edge::of(s.hw), color)
 }
 
 // One line under a clip within px.
-fn draw_line(px: &mut [u32], w: usize, clip: IRect, a: Pt, b: Pt, width: f32, color: Color) -> u32
-    requires { ⌜ AreaFits w (clipTo (lineReach a b width) clip) (length (now px)) ⌝ }
-    ensures { λ n. ⌜ Drew 4194304 (now (px .entry)) (drawn w clip (lineReach a b width) (lineInk a b width color) (now (px .entry))) n (now (px .exit)) ⌝ }
+fn draw_line(
+    px: &mut [u32],
+    pitch: usize,
+    clip: IRect,
+    a: Pt,
+    b: Pt,
+    width: f32,
+    color: Color,
+) -> u32
+    requires { ⌜ AreaFits pitch (clipTo (lineReach a b width) clip) (length (now px)) ⌝ }
+    ensures { λ n. ⌜ Drew 4194304 (now (px .entry)) (drawn pitch clip (lineReach a b width) (lineInk a b width color) (now (px .entry))) n (now (px .exit)) ⌝ }
 {
     let bb = clipped(line_reach(a, b, width), clip);
     if bb.y0 < bb.y1 {
-        return line_all(px, w, bb, a, b, width, color);
+        return line_all(px, pitch, bb, a, b, width, color);
     }
     0
 }
@@ -170,7 +176,7 @@ fn line_ok(a: Pt, b: Pt, width: f32) -> bool
 
 // A line between two points.
 pub fn line(canvas: Canvas, px: &mut [u32], a: Pt, b: Pt, width: f32, color: Color) -> Counted
-    ensures { λ r. ⌜ ShapeCalled (shapeNumber canvas (length (now (px .entry))) (lineOk a b width)) canvas (now (px .entry)) (drawn (up (canvas .w)) (canvas .clip) (lineReach a b width) (lineInk a b width color) (now (px .entry))) r (now (px .exit)) ⌝ }
+    ensures { λ r. ⌜ ShapeCalled (shapeNumber canvas (length (now (px .entry))) (lineOk a b width)) canvas (now (px .entry)) (drawn (canvas .pitch) (canvas .clip) (lineReach a b width) (lineInk a b width color) (now (px .entry))) r (now (px .exit)) ⌝ }
 {
     let number = canvas.shape_number(px.len(), line_ok(a, b, width));
     if number != 0 {
@@ -181,7 +187,7 @@ pub fn line(canvas: Canvas, px: &mut [u32], a: Pt, b: Pt, width: f32, color: Col
         };
     }
     let clip = canvas.clip;
-    let steps = draw_line(px, nat_of(canvas.w), clip, a, b, width, color) as u64;
+    let steps = draw_line(px, canvas.pitch, clip, a, b, width, color) as u64;
     Counted {
         number,
         canvas,
@@ -219,21 +225,36 @@ pub fn polyline_reach(pts: &[f32], width: f32) -> IRect
 }
 
 // The lines between successive points, under a clip within px.
-fn draw_lines(px: &mut [u32], w: usize, clip: IRect, pts: &[f32], width: f32, color: Color) -> u32
-    requires { ⌜ ((reach : IRect) → AreaFits w (clipTo reach clip) (length (now px))) ⌝ }
+fn draw_lines(
+    px: &mut [u32],
+    pitch: usize,
+    clip: IRect,
+    pts: &[f32],
+    width: f32,
+    color: Color,
+) -> u32
+    requires { ⌜ ((reach : IRect) → AreaFits pitch (clipTo reach clip) (length (now px))) ⌝ }
     requires { ⌜ length (now pts) ≤ 128 ⌝ }
-    ensures { λ n. ⌜ DrewLines w clip (now (pts .entry)) width color (now (px .entry)) n (now (px .exit)) ⌝ }
+    ensures { λ n. ⌜ DrewLines pitch clip (now (pts .entry)) width color (now (px .entry)) n (now (px .exit)) ⌝ }
 {
     let mut n = 0;
     for i in 1..pts.len() / 2 {
-        n += draw_line(px, w, clip, point(pts, i - 1), point(pts, i), width, color);
+        n += draw_line(
+            px,
+            pitch,
+            clip,
+            point(pts, i - 1),
+            point(pts, i),
+            width,
+            color,
+        );
     }
     n
 }
 
 // Lines between successive points, whose coordinates stand one after another.
 pub fn polyline(canvas: Canvas, px: &mut [u32], pts: &[f32], width: f32, color: Color) -> Counted
-    ensures { λ r. ⌜ CalledCounted (pointsNumber canvas (length (now (px .entry))) (now (pts .entry)) (floatOk width)) canvas (now (px .entry)) (polylined (up (canvas .w)) (canvas .clip) (now (pts .entry)) width color (now (px .entry))) (polylineSteps (up (canvas .w)) (canvas .clip) (now (pts .entry)) width color (now (px .entry))) r (now (px .exit)) ⌝ }
+    ensures { λ r. ⌜ CalledCounted (pointsNumber canvas (length (now (px .entry))) (now (pts .entry)) (floatOk width)) canvas (now (px .entry)) (polylined (canvas .pitch) (canvas .clip) (now (pts .entry)) width color (now (px .entry))) (polylineSteps (canvas .pitch) (canvas .clip) (now (pts .entry)) width color (now (px .entry))) r (now (px .exit)) ⌝ }
 {
     let number = points_number(canvas, px.len(), pts, float_ok(width));
     if number != 0 {
@@ -244,7 +265,7 @@ pub fn polyline(canvas: Canvas, px: &mut [u32], pts: &[f32], width: f32, color: 
         };
     }
     let clip = canvas.clip;
-    let steps = draw_lines(px, nat_of(canvas.w), clip, pts, width, color) as u64;
+    let steps = draw_lines(px, canvas.pitch, clip, pts, width, color) as u64;
     Counted {
         number,
         canvas,

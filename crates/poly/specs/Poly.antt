@@ -18,7 +18,7 @@ use Rattle.geom.specs.declared.Pt.{Pt}
 use Rattle.geom.specs.declared.IRect.{IRect}
 use Rattle.color.specs.Inks.{overC}
 use Rattle.draw.specs.Draw.{drawn}
-use Rattle.gfx.specs.Calls.{unless, ShapeCalled}
+use Rattle.gfx.specs.Calls.{unless, andThen, ShapeCalled}
 use Rattle.gfx.specs.Points.{pointsOk, coordsOk, pointsNumber}
 use Rattle.paints.specs.Paints.{paintAt, paintOk, centreOf}
 use Rattle.gfx.specs.declared.Canvas.{Canvas}
@@ -84,15 +84,13 @@ polyInk pts paint = inkIn (accumulated pts (polyBox pts)) (polyBox pts) paint
 unfoldable pub cleared : ℕ → List Float → List Float
 cleared need scratch = replicate need f0 ++ drop need scratch
 
--- 12, 8, 13, 6, then 9 for a scratch below need
+-- 12, 15, 8, 13, 6, then 9 for a scratch below need
 unfoldable pub polyNumber : Canvas → ℕ → List Float → Paint → ℕ → ℕ
-polyNumber c n pts paint words =
-    let number = pointsNumber c n pts (paintOk paint) in
-    cond (eqb number 0) (unless (leb (polyNeed pts) words) 9 0) number
+polyNumber c n pts paint words = andThen (pointsNumber c n pts (paintOk paint)) (unless (leb (polyNeed pts) words) 9 0)
 
 -- what `fill_poly` promises of number, state, px and the count of its steps, and of the scratch, which a refused call leaves
 pub record Filled (n : ℕ) (c : Canvas) (px : List ℕ) (pts : List Float) (paint : Paint) (scratch : List Float) (r : Counted) (px′ : List ℕ) (scratch′ : List Float) : Type 0 where
-  pub called : ShapeCalled n c px (drawn (up (c .w)) (c .clip) (polyReach pts) (polyInk pts paint) px) r px′
+  pub called : ShapeCalled n c px (drawn (c .pitch) (c .clip) (polyReach pts) (polyInk pts paint) px) r px′
   pub clears : scratch′ ≡ cond (eqb n 0) (cleared (polyNeed pts) scratch) scratch
 
 -- ---- reach and need of any points

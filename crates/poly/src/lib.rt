@@ -7,7 +7,6 @@ use crate::fill::fill_lent;
 use bounds::plan_of;
 use bounds::reach_of;
 use geom::IRect;
-use geom::nat_of;
 use gfx::Canvas;
 use gfx::Counted;
 use gfx::coords_ok;
@@ -65,7 +64,7 @@ pub fn fill_poly(
             steps: 0,
         };
     }
-    let pitch = nat_of(canvas.w);
+    let pitch = canvas.pitch;
     let clip = canvas.clip;
     let lent = fill_lent(px, scratch, pitch, clip, pts, paint);
     let number = lent.number;

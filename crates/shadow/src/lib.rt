@@ -156,11 +156,11 @@ fn straight_middle(lut: &[u32; 97], h: Shade, skip: bool, sdy: f32) -> u32
 }
 
 // A part of row y at one alpha.
-fn flat_span(px: &mut [u32], w: usize, y: usize, x0: usize, x1: usize, c: Color, v: u32) -> u32
-    requires { ⌜ RowFits w y x0 x1 (length (now px)) ⌝ }
-    ensures { λ n. ⌜ DrewRow w y x0 x1 (flatInk c v) (now (px .entry)) n (now (px .exit)) ⌝ }
+fn flat_span(px: &mut [u32], pitch: usize, y: usize, x0: usize, x1: usize, c: Color, v: u32) -> u32
+    requires { ⌜ RowFits pitch y x0 x1 (length (now px)) ⌝ }
+    ensures { λ n. ⌜ DrewRow pitch y x0 x1 (flatInk c v) (now (px .entry)) n (now (px .exit)) ⌝ }
 {
-    let row = y * w;
+    let row = y * pitch;
     let mut n = 0;
     for x in x0..x1 {
         let i = row + x;
@@ -175,7 +175,7 @@ fn flat_span(px: &mut [u32], w: usize, y: usize, x0: usize, x1: usize, c: Color,
 fn straight_span(
     px: &mut [u32],
     cols: &[u32; 2048],
-    w: usize,
+    pitch: usize,
     y: usize,
     x0: usize,
     x1: usize,
@@ -183,12 +183,12 @@ fn straight_span(
     sdy: f32,
     v: u32,
 ) -> u32
-    requires { ⌜ RowFits w y x0 x1 (length (now px)) ⌝ }
+    requires { ⌜ RowFits pitch y x0 x1 (length (now px)) ⌝ }
     requires { ⌜ Holds (columnAlpha h) x0 x1 (now cols) ⌝ }
     requires { ⌜ v ≡ alphaOf (h .c .a) (h .blur) sdy ⌝ }
-    ensures { λ n. ⌜ DrewRow w y x0 x1 (straightInk (h .s) (h .blur) (h .c) sdy) (now (px .entry)) n (now (px .exit)) ⌝ }
+    ensures { λ n. ⌜ DrewRow pitch y x0 x1 (straightInk (h .s) (h .blur) (h .c) sdy) (now (px .entry)) n (now (px .exit)) ⌝ }
 {
-    let row = y * w;
+    let row = y * pitch;
     let mut n = 0;
     for x in x0..x1 {
         let a = straight_side(h, sdy, x, cols[x], v);
@@ -217,17 +217,17 @@ fn corner_alphas(lut: &[u32; 97], x0: usize, n: usize, h: Shade, qy: f32) -> [u3
 fn each_span(
     px: &mut [u32],
     alphas: &[u32; 128],
-    w: usize,
+    pitch: usize,
     y: usize,
     x0: usize,
     x1: usize,
     c: Color,
 ) -> u32
-    requires { ⌜ RowFits w y x0 x1 (length (now px)) ⌝ }
+    requires { ⌜ RowFits pitch y x0 x1 (length (now px)) ⌝ }
     requires { ⌜ x1 ≤ x0 + 128 ⌝ }
-    ensures { λ n. ⌜ DrewRow w y x0 x1 (eachInk c x0 (now (alphas .entry))) (now (px .entry)) n (now (px .exit)) ⌝ }
+    ensures { λ n. ⌜ DrewRow pitch y x0 x1 (eachInk c x0 (now (alphas .entry))) (now (px .entry)) n (now (px .exit)) ⌝ }
 {
-    let row = y * w;
+    let row = y * pitch;
     let mut n = 0;
     for x in x0..x1 {
         let i = row + x;
@@ -242,42 +242,42 @@ fn each_span(
 fn corner_part(
     px: &mut [u32],
     lut: &[u32; 97],
-    w: usize,
+    pitch: usize,
     y: usize,
     x0: usize,
     x1: usize,
     h: Shade,
     qy: f32,
 ) -> u32
-    requires { ⌜ RowFits w y x0 x1 (length (now px)) ⌝ }
+    requires { ⌜ RowFits pitch y x0 x1 (length (now px)) ⌝ }
     requires { ⌜ Table h (now lut) ⌝ }
     requires { ⌜ x1 ≤ x0 + 128 ⌝ }
-    ensures { λ n. ⌜ DrewRow w y x0 x1 (cornerInk (h .s) (h .blur) (h .c) qy) (now (px .entry)) n (now (px .exit)) ⌝ }
+    ensures { λ n. ⌜ DrewRow pitch y x0 x1 (cornerInk (h .s) (h .blur) (h .c) qy) (now (px .entry)) n (now (px .exit)) ⌝ }
 {
     let alphas = corner_alphas(lut, x0, x1 - x0, h, qy);
-    each_span(px, &alphas, w, y, x0, x1, h.c)
+    each_span(px, &alphas, pitch, y, x0, x1, h.c)
 }
 
 // A part of row y beside the middle of any other row.
 fn corner_span(
     px: &mut [u32],
     lut: &[u32; 97],
-    w: usize,
+    pitch: usize,
     y: usize,
     x0: usize,
     x1: usize,
     h: Shade,
     qy: f32,
 ) -> u32
-    requires { ⌜ RowFits w y x0 x1 (length (now px)) ⌝ }
+    requires { ⌜ RowFits pitch y x0 x1 (length (now px)) ⌝ }
     requires { ⌜ Table h (now lut) ⌝ }
-    ensures { λ n. ⌜ DrewRow w y x0 x1 (cornerInk (h .s) (h .blur) (h .c) qy) (now (px .entry)) n (now (px .exit)) ⌝ }
+    ensures { λ n. ⌜ DrewRow pitch y x0 x1 (cornerInk (h .s) (h .blur) (h .c) qy) (now (px .entry)) n (now (px .exit)) ⌝ }
 {
     let mut x = x0;
     let mut n = 0;
     while x < x1 {
         let next = between(x + 128, x, x1);
-        n += corner_part(px, lut, w, y, x, next, h, qy);
+        n += corner_part(px, lut, pitch, y, x, next, h, qy);
         x = next;
     }
     n
@@ -313,7 +313,7 @@ fn straight_row(
     px: &mut [u32],
     lut: &[u32; 97],
     cols: &[u32; 2048],
-    w: usize,
+    pitch: usize,
     y: usize,
     x0: usize,
     x1: usize,
@@ -321,18 +321,18 @@ fn straight_row(
     skip: bool,
     sdy: f32,
 ) -> u32
-    requires { ⌜ RowFits w y x0 x1 (length (now px)) ⌝ }
+    requires { ⌜ RowFits pitch y x0 x1 (length (now px)) ⌝ }
     requires { ⌜ Table h (now lut) ⌝ }
     requires { ⌜ Holds (columnAlpha h) x0 x1 (now cols) ⌝ }
-    ensures { λ n. ⌜ DrewRow w y x0 x1 (straightRowInk h skip sdy) (now (px .entry)) n (now (px .exit)) ⌝ }
+    ensures { λ n. ⌜ DrewRow pitch y x0 x1 (straightRowInk h skip sdy) (now (px .entry)) n (now (px .exit)) ⌝ }
 {
     let a = between(straight_from(h.s, h.blur), x0, x1);
     let b = between(straight_upto(h.s, h.blur), a, x1);
     let m = straight_middle(lut, h, skip, sdy);
     let v = alpha_of(lut, h.c.a, h.blur, h.scale, sdy);
-    let left = straight_span(px, cols, w, y, x0, a, h, sdy, v);
-    let middle = flat_span(px, w, y, a, b, h.c, m);
-    let right = straight_span(px, cols, w, y, b, x1, h, sdy, v);
+    let left = straight_span(px, cols, pitch, y, x0, a, h, sdy, v);
+    let middle = flat_span(px, pitch, y, a, b, h.c, m);
+    let right = straight_span(px, cols, pitch, y, b, x1, h, sdy, v);
     left + middle + right
 }
 
@@ -340,23 +340,23 @@ fn straight_row(
 fn corner_row(
     px: &mut [u32],
     lut: &[u32; 97],
-    w: usize,
+    pitch: usize,
     y: usize,
     x0: usize,
     x1: usize,
     h: Shade,
     qy: f32,
 ) -> u32
-    requires { ⌜ RowFits w y x0 x1 (length (now px)) ⌝ }
+    requires { ⌜ RowFits pitch y x0 x1 (length (now px)) ⌝ }
     requires { ⌜ Table h (now lut) ⌝ }
-    ensures { λ n. ⌜ DrewRow w y x0 x1 (cornerRowInk h qy) (now (px .entry)) n (now (px .exit)) ⌝ }
+    ensures { λ n. ⌜ DrewRow pitch y x0 x1 (cornerRowInk h qy) (now (px .entry)) n (now (px .exit)) ⌝ }
 {
     let a = between(corner_from(h.s), x0, x1);
     let b = between(corner_upto(h.s), a, x1);
     let v = alpha_of(lut, h.c.a, h.blur, h.scale, qy - h.s.r);
-    let left = corner_span(px, lut, w, y, x0, a, h, qy);
-    let middle = flat_span(px, w, y, a, b, h.c, v);
-    let right = corner_span(px, lut, w, y, b, x1, h, qy);
+    let left = corner_span(px, lut, pitch, y, x0, a, h, qy);
+    let middle = flat_span(px, pitch, y, a, b, h.c, v);
+    let right = corner_span(px, lut, pitch, y, b, x1, h, qy);
     left + middle + right
 }
 
@@ -365,24 +365,24 @@ fn shade_row(
     px: &mut [u32],
     lut: &[u32; 97],
     cols: &[u32; 2048],
-    w: usize,
+    pitch: usize,
     y: usize,
     x0: usize,
     x1: usize,
     h: Shade,
     skip: bool,
 ) -> u32
-    requires { ⌜ RowFits w y x0 x1 (length (now px)) ⌝ }
+    requires { ⌜ RowFits pitch y x0 x1 (length (now px)) ⌝ }
     requires { ⌜ Table h (now lut) ⌝ }
     requires { ⌜ Holds (columnAlpha h) x0 x1 (now cols) ⌝ }
-    ensures { λ n. ⌜ DrewRow w y x0 x1 (shadeInk (h .s) (h .blur) (h .c) skip) (now (px .entry)) n (now (px .exit)) ⌝ }
+    ensures { λ n. ⌜ DrewRow pitch y x0 x1 (shadeInk (h .s) (h .blur) (h .c) skip) (now (px .entry)) n (now (px .exit)) ⌝ }
 {
     let dy = mathf::fabs(centre(y as u16) - h.s.cy);
     let qy = dy - (h.s.hh - h.s.r);
     if qy <= 0.0 {
-        straight_row(px, lut, cols, w, y, x0, x1, h, skip, dy - h.s.hh)
+        straight_row(px, lut, cols, pitch, y, x0, x1, h, skip, dy - h.s.hh)
     } else {
-        corner_row(px, lut, w, y, x0, x1, h, qy)
+        corner_row(px, lut, pitch, y, x0, x1, h, qy)
     }
 }
 
@@ -391,15 +391,15 @@ fn shade_box(
     px: &mut [u32],
     lut: &[u32; 97],
     cols: &[u32; 2048],
-    w: usize,
+    pitch: usize,
     b: Area,
     h: Shade,
     skip: bool,
 ) -> u32
-    requires { ⌜ AreaFits w b (length (now px)) ⌝ }
+    requires { ⌜ AreaFits pitch b (length (now px)) ⌝ }
     requires { ⌜ Table h (now lut) ⌝ }
     requires { ⌜ Holds (columnAlpha h) (b .x0) (b .x1) (now cols) ⌝ }
-    ensures { λ n. ⌜ DrewIn w b (shadeInk (h .s) (h .blur) (h .c) skip) (now (px .entry)) n (now (px .exit)) ⌝ }
+    ensures { λ n. ⌜ DrewIn pitch b (shadeInk (h .s) (h .blur) (h .c) skip) (now (px .entry)) n (now (px .exit)) ⌝ }
 {
     let x0 = b.x0;
     let x1 = b.x1;
@@ -407,7 +407,7 @@ fn shade_box(
     let y1 = b.y1;
     let mut n = 0;
     for y in y0..y1 {
-        n += shade_row(px, lut, cols, w, y, x0, x1, h, skip);
+        n += shade_row(px, lut, cols, pitch, y, x0, x1, h, skip);
     }
     n
 }
@@ -415,7 +415,7 @@ fn shade_box(
 // An area of the shadow of a rectangle: what its rows share is worked out first.
 fn shade_all(
     px: &mut [u32],
-    w: usize,
+    pitch: usize,
     b: Area,
     rect: Rect,
     r: f32,
@@ -423,8 +423,8 @@ fn shade_all(
     c: Color,
     skip: bool,
 ) -> u32
-    requires { ⌜ AreaFits w b (length (now px)) ⌝ }
-    ensures { λ n. ⌜ DrewIn w b (shadowInk rect r blur c skip) (now (px .entry)) n (now (px .exit)) ⌝ }
+    requires { ⌜ AreaFits pitch b (length (now px)) ⌝ }
+    ensures { λ n. ⌜ DrewIn pitch b (shadowInk rect r blur c skip) (now (px .entry)) n (now (px .exit)) ⌝ }
 {
     let lut = falloff(c.a);
     let scale = 96.0 / (2.0 * blur);
@@ -438,13 +438,13 @@ fn shade_all(
         c,
     };
     let cols = columns(&lut, h, b.x0, b.x1);
-    shade_box(px, &lut, &cols, w, b, h, skip)
+    shade_box(px, &lut, &cols, pitch, b, h, skip)
 }
 
 // The same, where the area has rows.
 fn shade_area(
     px: &mut [u32],
-    w: usize,
+    pitch: usize,
     b: Area,
     rect: Rect,
     r: f32,
@@ -452,11 +452,11 @@ fn shade_area(
     c: Color,
     skip: bool,
 ) -> u32
-    requires { ⌜ AreaFits w b (length (now px)) ⌝ }
-    ensures { λ n. ⌜ DrewIn w b (shadowInk rect r blur c skip) (now (px .entry)) n (now (px .exit)) ⌝ }
+    requires { ⌜ AreaFits pitch b (length (now px)) ⌝ }
+    ensures { λ n. ⌜ DrewIn pitch b (shadowInk rect r blur c skip) (now (px .entry)) n (now (px .exit)) ⌝ }
 {
     if b.y0 < b.y1 {
-        return shade_all(px, w, b, rect, r, blur, c, skip);
+        return shade_all(px, pitch, b, rect, r, blur, c, skip);
     }
     0
 }
@@ -471,7 +471,7 @@ pub fn shadow_rrect(
     color: Color,
     skip: bool,
 ) -> Counted
-    ensures { λ d. ⌜ ShapeCalled (shapeNumber canvas (length (now (px .entry))) (shadowOk rect r blur)) canvas (now (px .entry)) (drawn (up (canvas .w)) (canvas .clip) (shadowReach rect blur color) (shadowInk rect r blur color skip) (now (px .entry))) d (now (px .exit)) ⌝ }
+    ensures { λ d. ⌜ ShapeCalled (shapeNumber canvas (length (now (px .entry))) (shadowOk rect r blur)) canvas (now (px .entry)) (drawn (canvas .pitch) (canvas .clip) (shadowReach rect blur color) (shadowInk rect r blur color skip) (now (px .entry))) d (now (px .exit)) ⌝ }
 {
     let ok = rect.in_range() & floats_ok(r, blur);
     let number = canvas.shape_number(px.len(), ok);
@@ -482,10 +482,10 @@ pub fn shadow_rrect(
             steps: 0,
         };
     }
-    let w = nat_of(canvas.w);
+    let pitch = canvas.pitch;
     let clip = canvas.clip;
     let b = clipped(shadow_reach(rect, blur, color), clip);
-    let steps = shade_area(px, w, b, rect, r, blur, color, skip) as u64;
+    let steps = shade_area(px, pitch, b, rect, r, blur, color, skip) as u64;
     Counted {
         number,
         canvas,

@@ -254,18 +254,18 @@ fn side_cover(s: Rounded, l: Level, x: usize, col: u32) -> u32
 fn side_span(
     px: &mut [u32],
     cols: &[u32; 2048],
-    w: usize,
+    pitch: usize,
     y: usize,
     x0: usize,
     x1: usize,
     o: Frame,
     l: Level,
 ) -> u32
-    requires { ⌜ RowFits w y x0 x1 (length (now px)) ⌝ }
+    requires { ⌜ RowFits pitch y x0 x1 (length (now px)) ⌝ }
     requires { ⌜ LevelOf (o .s) (o .width) (centreOf y) l × ((l .qy ≤ᶠ f0) ≡ true) × Holds (columnCover (o .s) (o .width)) x0 x1 (now cols) ⌝ }
-    ensures { λ n. ⌜ DrewRow w y x0 x1 (bandInk (o .s) (o .width) (o .c)) (now (px .entry)) n (now (px .exit)) ⌝ }
+    ensures { λ n. ⌜ DrewRow pitch y x0 x1 (bandInk (o .s) (o .width) (o .c)) (now (px .entry)) n (now (px .exit)) ⌝ }
 {
-    let row = y * w;
+    let row = y * pitch;
     let mut n = 0;
     for x in x0..x1 {
         let cv = side_cover(o.s, l, x, cols[x]);
@@ -293,17 +293,17 @@ fn covers(s: Rounded, width: f32, l: Level, x0: usize, n: usize) -> [u32; 128]
 fn each_span(
     px: &mut [u32],
     covers: &[u32; 128],
-    w: usize,
+    pitch: usize,
     y: usize,
     x0: usize,
     x1: usize,
     c: Color,
 ) -> u32
-    requires { ⌜ RowFits w y x0 x1 (length (now px)) ⌝ }
+    requires { ⌜ RowFits pitch y x0 x1 (length (now px)) ⌝ }
     requires { ⌜ x1 ≤ x0 + 128 ⌝ }
-    ensures { λ n. ⌜ DrewRow w y x0 x1 (eachInk c x0 (now (covers .entry))) (now (px .entry)) n (now (px .exit)) ⌝ }
+    ensures { λ n. ⌜ DrewRow pitch y x0 x1 (eachInk c x0 (now (covers .entry))) (now (px .entry)) n (now (px .exit)) ⌝ }
 {
-    let row = y * w;
+    let row = y * pitch;
     let mut n = 0;
     for x in x0..x1 {
         let i = row + x;
@@ -315,27 +315,43 @@ fn each_span(
 }
 
 // At most 128 columns of such a row y, by distance: their coverages first, then all pixels.
-fn corner_part(px: &mut [u32], w: usize, y: usize, x0: usize, x1: usize, o: Frame, l: Level) -> u32
-    requires { ⌜ RowFits w y x0 x1 (length (now px)) ⌝ }
+fn corner_part(
+    px: &mut [u32],
+    pitch: usize,
+    y: usize,
+    x0: usize,
+    x1: usize,
+    o: Frame,
+    l: Level,
+) -> u32
+    requires { ⌜ RowFits pitch y x0 x1 (length (now px)) ⌝ }
     requires { ⌜ LevelOf (o .s) (o .width) (centreOf y) l ⌝ }
     requires { ⌜ x1 ≤ x0 + 128 ⌝ }
-    ensures { λ n. ⌜ DrewRow w y x0 x1 (bandInk (o .s) (o .width) (o .c)) (now (px .entry)) n (now (px .exit)) ⌝ }
+    ensures { λ n. ⌜ DrewRow pitch y x0 x1 (bandInk (o .s) (o .width) (o .c)) (now (px .entry)) n (now (px .exit)) ⌝ }
 {
     let covers = covers(o.s, o.width, l, x0, x1 - x0);
-    each_span(px, &covers, w, y, x0, x1, o.c)
+    each_span(px, &covers, pitch, y, x0, x1, o.c)
 }
 
 // A part of such a row y.
-fn corner_span(px: &mut [u32], w: usize, y: usize, x0: usize, x1: usize, o: Frame, l: Level) -> u32
-    requires { ⌜ RowFits w y x0 x1 (length (now px)) ⌝ }
+fn corner_span(
+    px: &mut [u32],
+    pitch: usize,
+    y: usize,
+    x0: usize,
+    x1: usize,
+    o: Frame,
+    l: Level,
+) -> u32
+    requires { ⌜ RowFits pitch y x0 x1 (length (now px)) ⌝ }
     requires { ⌜ LevelOf (o .s) (o .width) (centreOf y) l ⌝ }
-    ensures { λ n. ⌜ DrewRow w y x0 x1 (bandInk (o .s) (o .width) (o .c)) (now (px .entry)) n (now (px .exit)) ⌝ }
+    ensures { λ n. ⌜ DrewRow pitch y x0 x1 (bandInk (o .s) (o .width) (o .c)) (now (px .entry)) n (now (px .exit)) ⌝ }
 {
     let mut x = x0;
     let mut n = 0;
     while x < x1 {
         let next = between(x + 128, x, x1);
-        n += corner_part(px, w, y, x, next, o, l);
+        n += corner_part(px, pitch, y, x, next, o, l);
         x = next;
     }
     n
@@ -345,30 +361,38 @@ fn corner_span(px: &mut [u32], w: usize, y: usize, x0: usize, x1: usize, o: Fram
 fn band_span(
     px: &mut [u32],
     cols: &[u32; 2048],
-    w: usize,
+    pitch: usize,
     y: usize,
     x0: usize,
     x1: usize,
     o: Frame,
     l: Level,
 ) -> u32
-    requires { ⌜ RowFits w y x0 x1 (length (now px)) ⌝ }
+    requires { ⌜ RowFits pitch y x0 x1 (length (now px)) ⌝ }
     requires { ⌜ LevelOf (o .s) (o .width) (centreOf y) l × Holds (columnCover (o .s) (o .width)) x0 x1 (now cols) ⌝ }
-    ensures { λ n. ⌜ DrewRow w y x0 x1 (bandInk (o .s) (o .width) (o .c)) (now (px .entry)) n (now (px .exit)) ⌝ }
+    ensures { λ n. ⌜ DrewRow pitch y x0 x1 (bandInk (o .s) (o .width) (o .c)) (now (px .entry)) n (now (px .exit)) ⌝ }
 {
     if l.qy <= 0.0 {
-        side_span(px, cols, w, y, x0, x1, o, l)
+        side_span(px, cols, pitch, y, x0, x1, o, l)
     } else {
-        corner_span(px, w, y, x0, x1, o, l)
+        corner_span(px, pitch, y, x0, x1, o, l)
     }
 }
 
 // A part of row y at one coverage.
-fn level_span(px: &mut [u32], w: usize, y: usize, x0: usize, x1: usize, c: Color, cv: u32) -> u32
-    requires { ⌜ RowFits w y x0 x1 (length (now px)) ⌝ }
-    ensures { λ n. ⌜ DrewRow w y x0 x1 (levelInk c cv) (now (px .entry)) n (now (px .exit)) ⌝ }
+fn level_span(
+    px: &mut [u32],
+    pitch: usize,
+    y: usize,
+    x0: usize,
+    x1: usize,
+    c: Color,
+    cv: u32,
+) -> u32
+    requires { ⌜ RowFits pitch y x0 x1 (length (now px)) ⌝ }
+    ensures { λ n. ⌜ DrewRow pitch y x0 x1 (levelInk c cv) (now (px .entry)) n (now (px .exit)) ⌝ }
 {
-    let row = y * w;
+    let row = y * pitch;
     let mut n = 0;
     for x in x0..x1 {
         let i = row + x;
@@ -380,20 +404,28 @@ fn level_span(px: &mut [u32], w: usize, y: usize, x0: usize, x1: usize, c: Color
 }
 
 // Row y where it is full: beside no corner it has one coverage.
-fn full_span(px: &mut [u32], w: usize, y: usize, x0: usize, x1: usize, o: Frame, l: Level) -> u32
-    requires { ⌜ RowFits w y x0 x1 (length (now px)) ⌝ }
+fn full_span(
+    px: &mut [u32],
+    pitch: usize,
+    y: usize,
+    x0: usize,
+    x1: usize,
+    o: Frame,
+    l: Level,
+) -> u32
+    requires { ⌜ RowFits pitch y x0 x1 (length (now px)) ⌝ }
     requires { ⌜ LevelOf (o .s) (o .width) (centreOf y) l × LevelPart (o .s) x0 x1 (o .level) ⌝ }
-    ensures { λ n. ⌜ DrewRow w y x0 x1 (bandInk (o .s) (o .width) (o .c)) (now (px .entry)) n (now (px .exit)) ⌝ }
+    ensures { λ n. ⌜ DrewRow pitch y x0 x1 (bandInk (o .s) (o .width) (o .c)) (now (px .entry)) n (now (px .exit)) ⌝ }
 {
     if l.qy >= 0.0 {
         let a = o.level.from;
         let b = o.level.upto;
-        let left = corner_span(px, w, y, x0, a, o, l);
-        let middle = level_span(px, w, y, a, b, o.c, l.level);
-        let right = corner_span(px, w, y, b, x1, o, l);
+        let left = corner_span(px, pitch, y, x0, a, o, l);
+        let middle = level_span(px, pitch, y, a, b, o.c, l.level);
+        let right = corner_span(px, pitch, y, b, x1, o, l);
         left + middle + right
     } else {
-        corner_span(px, w, y, x0, x1, o, l)
+        corner_span(px, pitch, y, x0, x1, o, l)
     }
 }
 
@@ -401,7 +433,7 @@ fn full_span(px: &mut [u32], w: usize, y: usize, x0: usize, x1: usize, o: Frame,
 fn side_spans(
     px: &mut [u32],
     cols: &[u32; 2048],
-    w: usize,
+    pitch: usize,
     y: usize,
     x0: usize,
     x1: usize,
@@ -409,15 +441,15 @@ fn side_spans(
     l: Level,
     g: Columns,
 ) -> u32
-    requires { ⌜ RowFits w y x0 x1 (length (now px)) ⌝ }
+    requires { ⌜ RowFits pitch y x0 x1 (length (now px)) ⌝ }
     requires { ⌜ LevelOf (o .s) (o .width) (centreOf y) l × RowGap (o .s) (o .width) (centreOf y) g × (fullRow (o .s) (o .width +ᶠ f1) (centreOf y) ≡ false) ⌝ }
     requires { ⌜ Holds (columnCover (o .s) (o .width)) x0 x1 (now cols) ⌝ }
-    ensures { λ n. ⌜ DrewRow w y x0 x1 (outlineInk (o .s) (o .width) (o .c)) (now (px .entry)) n (now (px .exit)) ⌝ }
+    ensures { λ n. ⌜ DrewRow pitch y x0 x1 (outlineInk (o .s) (o .width) (o .c)) (now (px .entry)) n (now (px .exit)) ⌝ }
 {
     let a = between(g.from, x0, x1);
     let b = between(g.upto, a, x1);
-    let left = band_span(px, cols, w, y, x0, a, o, l);
-    let right = band_span(px, cols, w, y, b, x1, o, l);
+    let left = band_span(px, cols, pitch, y, x0, a, o, l);
+    let right = band_span(px, cols, pitch, y, b, x1, o, l);
     left + right
 }
 
@@ -437,30 +469,30 @@ fn row_gap(o: Frame, yc: f32) -> Columns
 fn outline_row(
     px: &mut [u32],
     cols: &[u32; 2048],
-    w: usize,
+    pitch: usize,
     y: usize,
     x0: usize,
     x1: usize,
     o: Frame,
 ) -> u32
-    requires { ⌜ RowFits w y x0 x1 (length (now px)) ⌝ }
+    requires { ⌜ RowFits pitch y x0 x1 (length (now px)) ⌝ }
     requires { ⌜ Ready o × LevelPart (o .s) x0 x1 (o .level) × Holds (columnCover (o .s) (o .width)) x0 x1 (now cols) ⌝ }
-    ensures { λ n. ⌜ DrewRow w y x0 x1 (outlineInk (o .s) (o .width) (o .c)) (now (px .entry)) n (now (px .exit)) ⌝ }
+    ensures { λ n. ⌜ DrewRow pitch y x0 x1 (outlineInk (o .s) (o .width) (o .c)) (now (px .entry)) n (now (px .exit)) ⌝ }
 {
     let yc = centre(y as u16);
     let l = level_of(o, yc);
     if full_row(o.s, o.width + 1.0, yc) {
-        full_span(px, w, y, x0, x1, o, l)
+        full_span(px, pitch, y, x0, x1, o, l)
     } else {
-        side_spans(px, cols, w, y, x0, x1, o, l, row_gap(o, yc))
+        side_spans(px, cols, pitch, y, x0, x1, o, l, row_gap(o, yc))
     }
 }
 
 // The rows of an area.
-fn outline_box(px: &mut [u32], cols: &[u32; 2048], w: usize, b: Area, o: Frame) -> u32
-    requires { ⌜ AreaFits w b (length (now px)) ⌝ }
+fn outline_box(px: &mut [u32], cols: &[u32; 2048], pitch: usize, b: Area, o: Frame) -> u32
+    requires { ⌜ AreaFits pitch b (length (now px)) ⌝ }
     requires { ⌜ Ready o × LevelPart (o .s) (b .x0) (b .x1) (o .level) × Holds (columnCover (o .s) (o .width)) (b .x0) (b .x1) (now cols) ⌝ }
-    ensures { λ n. ⌜ DrewIn w b (outlineInk (o .s) (o .width) (o .c)) (now (px .entry)) n (now (px .exit)) ⌝ }
+    ensures { λ n. ⌜ DrewIn pitch b (outlineInk (o .s) (o .width) (o .c)) (now (px .entry)) n (now (px .exit)) ⌝ }
 {
     let x0 = b.x0;
     let x1 = b.x1;
@@ -468,15 +500,15 @@ fn outline_box(px: &mut [u32], cols: &[u32; 2048], w: usize, b: Area, o: Frame) 
     let y1 = b.y1;
     let mut n = 0;
     for y in y0..y1 {
-        n += outline_row(px, cols, w, y, x0, x1, o);
+        n += outline_row(px, cols, pitch, y, x0, x1, o);
     }
     n
 }
 
 // An area of the outline of a rectangle: what its rows share is worked out first.
-fn outline_all(px: &mut [u32], w: usize, b: Area, s: Rounded, width: f32, c: Color) -> u32
-    requires { ⌜ AreaFits w b (length (now px)) ⌝ }
-    ensures { λ n. ⌜ DrewIn w b (outlineInk s width c) (now (px .entry)) n (now (px .exit)) ⌝ }
+fn outline_all(px: &mut [u32], pitch: usize, b: Area, s: Rounded, width: f32, c: Color) -> u32
+    requires { ⌜ AreaFits pitch b (length (now px)) ⌝ }
+    ensures { λ n. ⌜ DrewIn pitch b (outlineInk s width c) (now (px .entry)) n (now (px .exit)) ⌝ }
 {
     let bent = gap(s, width, true);
     let straight = gap(s, width, false);
@@ -492,16 +524,16 @@ fn outline_all(px: &mut [u32], w: usize, b: Area, s: Rounded, width: f32, c: Col
         near: blank_upto(s.r, width),
     };
     let cols = column_covers(s, width, b.x0, b.x1);
-    outline_box(px, &cols, w, b, o)
+    outline_box(px, &cols, pitch, b, o)
 }
 
 // The same, where the area has rows.
-fn outline_area(px: &mut [u32], w: usize, b: Area, s: Rounded, width: f32, c: Color) -> u32
-    requires { ⌜ AreaFits w b (length (now px)) ⌝ }
-    ensures { λ n. ⌜ DrewIn w b (outlineInk s width c) (now (px .entry)) n (now (px .exit)) ⌝ }
+fn outline_area(px: &mut [u32], pitch: usize, b: Area, s: Rounded, width: f32, c: Color) -> u32
+    requires { ⌜ AreaFits pitch b (length (now px)) ⌝ }
+    ensures { λ n. ⌜ DrewIn pitch b (outlineInk s width c) (now (px .entry)) n (now (px .exit)) ⌝ }
 {
     if b.y0 < b.y1 {
-        return outline_all(px, w, b, s, width, c);
+        return outline_all(px, pitch, b, s, width, c);
     }
     0
 }
@@ -516,7 +548,7 @@ fn outline(
     width: f32,
     c: Color,
 ) -> Counted
-    ensures { λ d. ⌜ ShapeCalled (shapeNumber canvas (length (now (px .entry))) ok) canvas (now (px .entry)) (drawn (up (canvas .w)) (canvas .clip) (strokeReach rect c) (strokeInk rect r width c) (now (px .entry))) d (now (px .exit)) ⌝ }
+    ensures { λ d. ⌜ ShapeCalled (shapeNumber canvas (length (now (px .entry))) ok) canvas (now (px .entry)) (drawn (canvas .pitch) (canvas .clip) (strokeReach rect c) (strokeInk rect r width c) (now (px .entry))) d (now (px .exit)) ⌝ }
 {
     let number = canvas.shape_number(px.len(), ok);
     if number != 0 {
@@ -526,10 +558,10 @@ fn outline(
             steps: 0,
         };
     }
-    let w = nat_of(canvas.w);
+    let pitch = canvas.pitch;
     let clip = canvas.clip;
     let b = clipped(stroke_reach(rect, c), clip);
-    let steps = outline_area(px, w, b, Rounded::of(rect, r), width, c) as u64;
+    let steps = outline_area(px, pitch, b, Rounded::of(rect, r), width, c) as u64;
     Counted {
         number,
         canvas,
@@ -546,7 +578,7 @@ pub fn stroke_rrect(
     width: f32,
     color: Color,
 ) -> Counted
-    ensures { λ d. ⌜ ShapeCalled (shapeNumber canvas (length (now (px .entry))) (strokeOk rect r width)) canvas (now (px .entry)) (drawn (up (canvas .w)) (canvas .clip) (strokeReach rect color) (strokeInk rect r width color) (now (px .entry))) d (now (px .exit)) ⌝ }
+    ensures { λ d. ⌜ ShapeCalled (shapeNumber canvas (length (now (px .entry))) (strokeOk rect r width)) canvas (now (px .entry)) (drawn (canvas .pitch) (canvas .clip) (strokeReach rect color) (strokeInk rect r width color) (now (px .entry))) d (now (px .exit)) ⌝ }
 {
     let ok = rect.in_range() & floats_ok(r, width);
     outline(canvas, px, ok, rect, r, width, color)
@@ -562,7 +594,7 @@ pub fn ring(
     width: f32,
     color: Color,
 ) -> Counted
-    ensures { λ d. ⌜ ShapeCalled (shapeNumber canvas (length (now (px .entry))) (ringOk cx cy r width)) canvas (now (px .entry)) (drawn (up (canvas .w)) (canvas .clip) (strokeReach (circleRect cx cy r) color) (strokeInk (circleRect cx cy r) r width color) (now (px .entry))) d (now (px .exit)) ⌝ }
+    ensures { λ d. ⌜ ShapeCalled (shapeNumber canvas (length (now (px .entry))) (ringOk cx cy r width)) canvas (now (px .entry)) (drawn (canvas .pitch) (canvas .clip) (strokeReach (circleRect cx cy r) color) (strokeInk (circleRect cx cy r) r width color) (now (px .entry))) d (now (px .exit)) ⌝ }
 {
     let ok = floats_ok(cx, cy) & floats_ok(r, width);
     let rect = Rect::new(cx - r, cy - r, r * 2.0, r * 2.0);

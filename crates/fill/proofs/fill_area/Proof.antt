@@ -18,7 +18,7 @@ returns c = search needs
 returns-2 : tie.Need-returns-2
 returns-2 c =
     let a = c .before .before .before .args in
-    drew-none (none-down (a .w) (fillInk (a .rect) (a .r) (a .paint)) _ (a .bb) (c .if1 .left))
+    drew-none (none-down (a .pitch) (fillInk (a .rect) (a .r) (a .paint)) _ (a .bb) (c .if1 .left))
 
 pub fill-area-spec : {M : Type 1} → statement M
 fill-area-spec = tie.close (tie.spec fill-all-requires same-length returns returns-2)

@@ -1,8 +1,6 @@
 -- `fill::fill_ground` meets its contract. Assumes nothing.
-use mathlib.Core.Path.{_≡_, sym, _∙_}
+use mathlib.Core.Path.{sym, _∙_}
 use native.Mathlib.Omega.{arith}
-use Rattle.geom.specs.Int.{up}
-use Rattle.geom.proofs.Signed.{kept}
 use Rattle.draw.proofs.Clips.{drawn-clip}
 use Rattle.draw.proofs.Loops.{drew-as}
 use Rattle.gfx.proofs.Answers.{refused-shape, accepted-shape}
@@ -12,17 +10,11 @@ use borrow.Author.Needs.{needs}
 use Rattle.fill.proofs.fill_ground.Statement.{statement}
 use Rattle.fill.proofs.fill_ground.Tie as tie
 
-pitch : (c : tie.After-nat-of) → c .nat-of .result ≡ up (c .before .before .before .before .before .args .canvas .w)
-pitch c = c .nat-of .ensures ∙ rw (kept (c .before .before .before .before .before .args .canvas .w) (c .before .struct-told .given .0 .1))
-
 px-number-requires : tie.Need-px-number-requires
 px-number-requires c κs = search needs
 
 returns : tie.Need-returns
 returns c = refused-shape (c .before .px-number .ensures) (c .if1 .taken)
-
-nat-of-requires : tie.Need-nat-of-requires
-nat-of-requires c κs = search needs
 
 clipped-requires : tie.Need-clipped-requires
 clipped-requires c κs = search needs
@@ -33,10 +25,9 @@ pix-requires c κs = search needs
 store-box-requires : tie.Need-store-box-requires
 store-box-requires c κs =
     let k = c .before .before in
-    let n = k .before .before in
-    let test = n .before .before in
+    let test = k .before .before in
     let canvas = test .before .before .before .args .canvas in
-    rw (pitch n, k .clipped .ensures) (canvas-fits canvas _ (canvas .clip) (open-of _ _ (sym (test .before .px-number .ensures) ∙ test .if1 .left)))
+    rw (k .clipped .ensures) (canvas-fits canvas _ (canvas .clip) (open-of _ _ (sym (test .before .px-number .ensures) ∙ test .if1 .left)))
 
 cast-steps : tie.Need-cast-steps
 cast-steps c = omega (arith, c .before .before .store-box .ensures .few)
@@ -49,11 +40,10 @@ returns-2 c =
     let f = c .before .before in
     let v = f .before .before in
     let k = v .before in
-    let n = k .before .before in
-    let test = n .before .before in
+    let test = k .before .before in
     let canvas = test .before .before .before .args .canvas in
     accepted-shape (test .before .px-number .ensures) (test .if1 .left)
-    (drew-as (rw (pitch n, k .clipped .ensures, v .pix .ensures) at (f .store-box .ensures)) (sym (drawn-clip (up (canvas .w)) (canvas .clip) (canvas .clip) _ _)))
+    (drew-as (rw (k .clipped .ensures, v .pix .ensures) at (f .store-box .ensures)) (sym (drawn-clip (canvas .pitch) (canvas .clip) (canvas .clip) _ _)))
 
 pub fill-ground-spec : {M : Type 1} → statement M
 fill-ground-spec =
@@ -61,7 +51,6 @@ fill-ground-spec =
     (tie.spec
     px-number-requires
     returns
-    nat-of-requires
     clipped-requires
     pix-requires
     store-box-requires

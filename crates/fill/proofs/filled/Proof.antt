@@ -1,8 +1,6 @@
 -- `fill::filled` meets its contract. Assumes nothing.
 use mathlib.Core.Path.{_≡_, sym, _∙_}
 use native.Mathlib.Omega.{arith}
-use Rattle.geom.specs.Int.{up}
-use Rattle.geom.proofs.Signed.{kept}
 use Rattle.draw.specs.Areas.{clipTo}
 use Rattle.draw.proofs.Clips.{drawn-clip}
 use Rattle.draw.proofs.Loops.{drew-as}
@@ -14,11 +12,8 @@ use borrow.Author.Needs.{needs}
 use Rattle.fill.proofs.filled.Statement.{statement}
 use Rattle.fill.proofs.filled.Tie as tie
 
-pitch : (c : tie.After-nat-of) → c .nat-of .result ≡ up (c .before .before .before .before .before .args .canvas .w)
-pitch c = c .nat-of .ensures ∙ rw (kept (c .before .before .before .before .before .args .canvas .w) (c .before .struct-told .given .0 .1))
-
 clip : (c : tie.After-clipped) → c .clipped .result
-    ≡ clipTo (fillReach (c .before .before .before .before .before .before .before .before .args .rect)) (c .before .before .before .before .before .before .before .before .args .canvas .clip)
+    ≡ clipTo (fillReach (c .before .before .before .before .before .before .args .rect)) (c .before .before .before .before .before .before .args .canvas .clip)
 clip c = c .clipped .ensures ∙ rw (c .before .fill-reach .ensures)
 
 shape-number-requires : tie.Need-shape-number-requires
@@ -26,9 +21,6 @@ shape-number-requires c κs = search needs
 
 returns : tie.Need-returns
 returns c = refused-shape (c .before .shape-number .ensures) (c .if1 .taken)
-
-nat-of-requires : tie.Need-nat-of-requires
-nat-of-requires c κs = search needs
 
 fill-reach-requires : tie.Need-fill-reach-requires
 fill-reach-requires c κs = search needs
@@ -39,10 +31,9 @@ clipped-requires c κs = search needs
 fill-area-requires : tie.Need-fill-area-requires
 fill-area-requires c κs =
     let k = c .before in
-    let n = k .before .before .before in
-    let test = n .before .before in
+    let test = k .before .before .before in
     let args = test .before .before .before .args in
-    rw (pitch n, clip k) (canvas-fits (args .canvas) _ (fillReach (args .rect)) (shape-open _ _ (args .ok) (sym (test .before .shape-number .ensures) ∙ test .if1 .left)))
+    rw (clip k) (canvas-fits (args .canvas) _ (fillReach (args .rect)) (shape-open _ _ (args .ok) (sym (test .before .shape-number .ensures) ∙ test .if1 .left)))
 
 cast-steps : tie.Need-cast-steps
 cast-steps c = omega (arith, c .before .before .fill-area .ensures .few)
@@ -54,11 +45,10 @@ returns-2 : tie.Need-returns-2
 returns-2 c =
     let f = c .before .before in
     let k = f .before .before in
-    let n = k .before .before .before in
-    let test = n .before .before in
+    let test = k .before .before .before in
     let args = test .before .before .before .args in
     accepted-shape (test .before .shape-number .ensures) (test .if1 .left)
-    (drew-as (rw (pitch n, clip k) at (f .fill-area .ensures)) (sym (drawn-clip (up (args .canvas .w)) (args .canvas .clip) (fillReach (args .rect)) _ _)))
+    (drew-as (rw (clip k) at (f .fill-area .ensures)) (sym (drawn-clip (args .canvas .pitch) (args .canvas .clip) (fillReach (args .rect)) _ _)))
 
 pub filled-spec : {M : Type 1} → statement M
 filled-spec =
@@ -66,7 +56,6 @@ filled-spec =
     (tie.spec
     shape-number-requires
     returns
-    nat-of-requires
     fill-reach-requires
     clipped-requires
     fill-area-requires

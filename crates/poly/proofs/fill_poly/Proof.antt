@@ -2,8 +2,6 @@
 use mathlib.Core.Path.{_≡_, sym, _∙_}
 use native.Mathlib.Omega.{arith}
 use lib.ListN.{length}
-use Rattle.geom.specs.Int.{up}
-use Rattle.draw.specs.Areas.{clipTo, AreaFits}
 use Rattle.draw.proofs.Clips.{drawn-clip}
 use Rattle.draw.proofs.Loops.{drew-as}
 use Rattle.paints.specs.Paints.{paintOk}
@@ -11,7 +9,7 @@ use Rattle.gfx.specs.Points.{pointsNumber}
 use Rattle.gfx.proofs.Coords.{OpenPoints, points-open, points-few}
 use Rattle.gfx.proofs.Fits.{canvas-fits}
 use Rattle.poly.specs.Poly.{polyReach, polyInk}
-use Rattle.poly.proofs.Calls.{width-back, number-refused, refused-fill, lent-fill}
+use Rattle.poly.proofs.Calls.{number-refused, refused-fill, lent-fill}
 use borrow.Author.Needs.{needs}
 use Rattle.poly.proofs.fill_poly.Statement.{statement}
 use Rattle.poly.proofs.fill_poly.Tie as tie
@@ -27,12 +25,6 @@ accepted c =
     let at = c .before .before .before .before .before .before .args in
     points-open (at .canvas) (length (at .px .now)) (at .pts .now) (paintOk (at .paint)) (passed c)
 
--- a row of pixels is as long as the canvas is wide
-pitch-is : (w : tie.After-nat-of) → w .nat-of .result ≡ up (w .before .before .before .before .before .before .before .before .args .canvas .w)
-pitch-is w =
-    let at = w .before .before .before .before .before .before .before .before .args in
-    w .nat-of .ensures ∙ rw (width-back (at .canvas) (length (at .px .now)) (accepted (w .before .before) .canvas))
-
 in-range-requires : tie.Need-in-range-requires
 in-range-requires c κs = search needs
 
@@ -44,18 +36,12 @@ returns c =
     let at = c .before .before .before .before .before .before .args in
     refused-fill (number-refused (at .canvas) (length (at .px .now)) (at .pts .now) (at .paint) (length (at .scratch .now)) (number-is (c .before)) (c .if1 .taken)) (c .if1 .taken)
 
-nat-of-requires : tie.Need-nat-of-requires
-nat-of-requires c κs = search needs
-
 fill-lent-requires : tie.Need-fill-lent-requires
 fill-lent-requires c κs =
-    let w = c .before .before .before in
-    let t = w .before .before in
+    let t = c .before .before .before in
     let at = t .before .before .before .before .before .before .args in
     let o = accepted t in
-    let fits : AreaFits (w .nat-of .result) (clipTo (polyReach (at .pts .now)) (at .canvas .clip)) (length (at .px .now)) =
-    rw (pitch-is w) (canvas-fits (at .canvas) (length (at .px .now)) (polyReach (at .pts .now)) (o .canvas)) in
-    (fits, (points-few (at .pts .now) (o .points), o .coords))
+    (canvas-fits (at .canvas) (length (at .px .now)) (polyReach (at .pts .now)) (o .canvas), (points-few (at .pts .now) (o .points), o .coords))
 
 cast-steps : tie.Need-cast-steps
 cast-steps c = omega (arith, c .before .before .before .before .before .fill-lent .ensures .1 .0 .few)
@@ -69,12 +55,11 @@ same-length-2 c = search needs
 returns-2 : tie.Need-returns-2
 returns-2 c =
     let f = c .before .before .before .before .before in
-    let w = f .before .before .before .before in
-    let t = w .before .before in
+    let t = f .before .before .before .before in
     let at = t .before .before .before .before .before .before .args in
     lent-fill (at .canvas) (at .px .now) (at .pts .now) (at .paint) (at .scratch .now) (passed t)
     (f .fill-lent .ensures .0)
-    (drew-as (f .fill-lent .ensures .1 .0) (rw (pitch-is w, drawn-clip (up (at .canvas .w)) (at .canvas .clip) (polyReach (at .pts .now)) (polyInk (at .pts .now) (at .paint)) (at .px .now))))
+    (drew-as (f .fill-lent .ensures .1 .0) (rw (drawn-clip (at .canvas .pitch) (at .canvas .clip) (polyReach (at .pts .now)) (polyInk (at .pts .now) (at .paint)) (at .px .now))))
     (f .fill-lent .ensures .1 .1)
 
 pub fill-poly-spec : {M : Type 1} → statement M
@@ -84,7 +69,6 @@ fill-poly-spec =
     in-range-requires
     points-number-requires
     returns
-    nat-of-requires
     fill-lent-requires
     cast-steps
     same-length

@@ -30,7 +30,7 @@ returns c =
     let alphas = c .before .before .before .before .before in
     let a = alphas .before .before .args in
     drew-as (c .before .before .each-span .ensures)
-    (row-same (a .w) _ _ _ (a .x0) (a .x1) (a .y)
+    (row-same (a .pitch) _ _ _ (a .x0) (a .x1) (a .y)
     (λ x p l h.
     let same : a .x0 + (x - a .x0) ≡ x = omega arith in
     ap (over p (a .h .c)) (alphas .corner-alphas .ensures (x - a .x0) (omega arith) (omega arith) ∙ ap (λ (k : ℕ). cornerSide (a .h .s) (a .h .c .a) (a .h .blur) (a .qy) (centreOf k)) same)))

@@ -70,7 +70,7 @@ returns c =
     (cornerFrom (a .h .s)) (cornerUpto (a .h .s)) (a .y)
     (λ x p e. corner-out (a .h) (a .qy) x (a .y) p e)
     (λ x p e. rw (mid .alpha-of .ensures) (corner-in (a .h) (a .qy) x (a .y) p e))
-    (a .w) (a .x0) (a .x1) _ _ _ _ _ _ _ _ (st .pre .0 .order)
+    (a .pitch) (a .x0) (a .x1) _ _ _ _ _ _ _ _ (st .pre .0 .order)
     (ends .before .before .before .corner-from .ensures) (ends .before .corner-upto .ensures)
     (ends .before .before .between .ensures) (ends .between2 .ensures)
     (left .corner-span .ensures) (flat .flat-span .ensures) (c .before .before .corner-span2 .ensures)

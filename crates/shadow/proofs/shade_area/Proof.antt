@@ -18,7 +18,7 @@ returns c = search needs
 returns-2 : tie.Need-returns-2
 returns-2 c =
     let a = c .before .before .before .args in
-    drew-none (none-down (a .w) (shadowInk (a .rect) (a .r) (a .blur) (a .c) (a .skip)) _ (a .b) (c .if1 .left))
+    drew-none (none-down (a .pitch) (shadowInk (a .rect) (a .r) (a .blur) (a .c) (a .skip)) _ (a .b) (c .if1 .left))
 
 pub shade-area-spec : {M : Type 1} → statement M
 shade-area-spec = tie.close (tie.spec shade-all-requires same-length returns returns-2)

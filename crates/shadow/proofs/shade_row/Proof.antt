@@ -35,7 +35,7 @@ returns c =
     let a = k .before .before .args in
     let e = rw (f .fabs .ensures, k .centre .ensures) at (d .if1 .taken) in
     drew-as (rw (f .fabs .ensures, k .centre .ensures) at (c .before .before .straight-row .ensures))
-    (row-same (a .w) _ _ _ (a .x0) (a .x1) (a .y) (λ x p l h. straight-row (a .h) (a .skip) (a .y) e x p))
+    (row-same (a .pitch) _ _ _ (a .x0) (a .x1) (a .y) (λ x p l h. straight-row (a .h) (a .skip) (a .y) e x p))
 
 same-length-2 : tie.Need-same-length-2
 same-length-2 c = omega arith
@@ -48,7 +48,7 @@ returns-2 c =
     let a = k .before .before .args in
     let e = rw (f .fabs .ensures, k .centre .ensures) at (d .if1 .left) in
     drew-as (rw (f .fabs .ensures, k .centre .ensures) at (c .before .before .corner-row .ensures))
-    (row-same (a .w) _ _ _ (a .x0) (a .x1) (a .y) (λ x p l h. corner-row (a .h) (a .skip) (a .y) e x p))
+    (row-same (a .pitch) _ _ _ (a .x0) (a .x1) (a .y) (λ x p l h. corner-row (a .h) (a .skip) (a .y) e x p))
 
 pub shade-row-spec : {M : Type 1} → statement M
 shade-row-spec =

@@ -3,8 +3,6 @@ use mathlib.Core.Path.{_≡_, _∙_, sym}
 use native.Mathlib.Omega.{arith}
 use denote.Ref.{now}
 use lib.ListN.{length}
-use Rattle.geom.specs.Int.{up}
-use Rattle.geom.proofs.Signed.{kept}
 use Rattle.draw.proofs.Loops.{drew-as}
 use Rattle.draw.proofs.Clips.{drawn-clip}
 use Rattle.gfx.specs.Calls.{shapeNumber}
@@ -22,11 +20,6 @@ number : (c : tie.After-shape-number) →
     (shadowOk (c .before .before .before .before .args .rect) (c .before .before .before .before .args .r) (c .before .before .before .before .args .blur))
 number c = rw (c .before .floats-ok .ensures, c .before .before .in-range .ensures) at (c .shape-number .ensures)
 
-wide : (c : tie.After-nat-of) → c .nat-of .result ≡ up (c .before .before .before .before .before .before .before .args .canvas .w)
-wide c =
-    let w = c .before .before .before .before .before .before .before .args .canvas .w in
-    simp (kept w (c .before .struct-told .given .0 .1)) at (c .nat-of .ensures)
-
 in-range-requires : tie.Need-in-range-requires
 in-range-requires c κs = search needs
 
@@ -39,9 +32,6 @@ shape-number-requires c κs = search needs
 returns : tie.Need-returns
 returns c = refused-shape (number (c .before)) (c .if1 .taken)
 
-nat-of-requires : tie.Need-nat-of-requires
-nat-of-requires c κs = search needs
-
 shadow-reach-requires : tie.Need-shadow-reach-requires
 shadow-reach-requires c κs = search needs
 
@@ -50,9 +40,8 @@ clipped-requires c κs = search needs
 
 shade-area-requires : tie.Need-shade-area-requires
 shade-area-requires c κs =
-    let n = c .before .before .before .before in
-    let d = n .before .before in
-    rw (wide n, c .before .clipped .ensures) (canvas-fits _ _ _ (shape-open _ _ _ (sym (number (d .before)) ∙ d .if1 .left)))
+    let d = c .before .before .before .before in
+    rw (c .before .clipped .ensures) (canvas-fits _ _ _ (shape-open _ _ _ (sym (number (d .before)) ∙ d .if1 .left)))
 
 cast-steps : tie.Need-cast-steps
 cast-steps c = omega (arith, c .before .before .shade-area .ensures .few)
@@ -64,9 +53,8 @@ returns-2 : tie.Need-returns-2
 returns-2 c =
     let a = c .before .before in
     let k = a .before .before in
-    let n = k .before .before .before in
-    let d = n .before .before in
-    let e = rw (wide n, k .clipped .ensures, k .before .shadow-reach .ensures) at (a .shade-area .ensures) in
+    let d = k .before .before .before in
+    let e = rw (k .clipped .ensures, k .before .shadow-reach .ensures) at (a .shade-area .ensures) in
     accepted-shape (number (d .before)) (d .if1 .left) (drew-as e (sym (drawn-clip _ _ _ _ _)))
 
 pub shadow-rrect-spec : {M : Type 1} → statement M
@@ -77,7 +65,6 @@ shadow-rrect-spec =
     floats-ok-requires
     shape-number-requires
     returns
-    nat-of-requires
     shadow-reach-requires
     clipped-requires
     shade-area-requires

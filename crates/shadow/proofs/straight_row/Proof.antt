@@ -79,7 +79,7 @@ returns c =
     (straightFrom (a .h .s) (a .h .blur)) (straightUpto (a .h .s) (a .h .blur)) (a .y)
     (λ x p e. straight-out (a .h) (a .skip) (a .sdy) x (a .y) p e)
     (λ x p e. rw (mid .straight-middle .ensures) (straight-in (a .h) (a .skip) (a .sdy) x (a .y) p e))
-    (a .w) (a .x0) (a .x1) _ _ _ _ _ _ _ _ (st .pre .0 .order)
+    (a .pitch) (a .x0) (a .x1) _ _ _ _ _ _ _ _ (st .pre .0 .order)
     (mid .before .before .before .before .straight-from .ensures) (mid .before .before .straight-upto .ensures)
     (mid .before .before .before .between .ensures) (mid .before .between2 .ensures)
     (left .straight-span .ensures) (flat .flat-span .ensures) (c .before .before .straight-span2 .ensures)

@@ -31,7 +31,7 @@ returns c =
     let st = cover .before .before in
     let a = st .args in
     drew-as (c .before .before .each-span .ensures)
-    (row-same (a .w) _ _ _ (a .x0) (a .x1) (a .y)
+    (row-same (a .pitch) _ _ _ (a .x0) (a .x1) (a .y)
     (λ x p l h.
     let same : a .x0 + (x - a .x0) ≡ x = omega arith in
     ap (overC p (a .o .c)) (cover .covers .ensures _ (st .pre .1 .0) (x - a .x0) (omega arith) (omega arith) ∙ ap (λ (k : ℕ). bandCover (roundedSd (a .o .s) (centreOf k) (centreOf (a .y))) (a .o .width)) same)))

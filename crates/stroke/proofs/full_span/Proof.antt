@@ -50,7 +50,7 @@ returns c =
     let a = st .args in
     let part = st .pre .1 .1 in
     let ink = bandInk (a .o .s) (a .o .width) (a .o .c) in
-    row-three (a .w) ink ink (levelInk (a .o .c) (a .l .level)) ink (a .y) (a .x0) (a .o .level .from) (a .o .level .upto) (a .x1) _ _ _ _ (part .after) (part .order) (part .before)
+    row-three (a .pitch) ink ink (levelInk (a .o .c) (a .l .level)) ink (a .y) (a .x0) (a .o .level .from) (a .o .level .upto) (a .x1) _ _ _ _ (part .after) (part .order) (part .before)
     (left .corner-span .ensures) (mid .level-span .ensures) (c .before .before .corner-span2 .ensures)
     (λ x p h u. refl)
     (λ x p h u. level-at (a .o .s) (a .o .width) (a .o .c) (a .l) _ _ x (a .y) p (part .level) (st .pre .1 .0) (left .before .before .if1 .taken) h u)

@@ -1,8 +1,6 @@
 -- `stroke::outline` meets its contract. Assumes nothing.
-use mathlib.Core.Path.{_≡_, _∙_, sym}
+use mathlib.Core.Path.{_∙_, sym}
 use native.Mathlib.Omega.{arith}
-use Rattle.geom.specs.Int.{up}
-use Rattle.geom.proofs.Signed.{kept}
 use Rattle.draw.proofs.Clips.{drawn-clip}
 use Rattle.draw.proofs.Loops.{drew-as}
 use Rattle.gfx.proofs.Answers.{refused-shape, accepted-shape}
@@ -12,19 +10,11 @@ use borrow.Author.Needs.{needs}
 use Rattle.stroke.proofs.outline.Statement.{statement}
 use Rattle.stroke.proofs.outline.Tie as tie
 
-wide : (c : tie.After-nat-of) → c .nat-of .result ≡ up (c .before .before .before .before .before .args .canvas .w)
-wide c =
-    let w = c .before .before .before .before .before .args .canvas .w in
-    simp (kept w (c .before .struct-told .given .0 .1)) at (c .nat-of .ensures)
-
 shape-number-requires : tie.Need-shape-number-requires
 shape-number-requires c κs = search needs
 
 returns : tie.Need-returns
 returns c = refused-shape (c .before .shape-number .ensures) (c .if1 .taken)
-
-nat-of-requires : tie.Need-nat-of-requires
-nat-of-requires c κs = search needs
 
 stroke-reach-requires : tie.Need-stroke-reach-requires
 stroke-reach-requires c κs = search needs
@@ -38,9 +28,8 @@ of-requires c κs = search needs
 outline-area-requires : tie.Need-outline-area-requires
 outline-area-requires c κs =
     let b = c .before .before in
-    let n = b .before .before .before in
-    let d = n .before .before in
-    rw (wide n, b .clipped .ensures) (canvas-fits _ _ _ (shape-open _ _ _ (sym (d .before .shape-number .ensures) ∙ d .if1 .left)))
+    let d = b .before .before .before in
+    rw (b .clipped .ensures) (canvas-fits _ _ _ (shape-open _ _ _ (sym (d .before .shape-number .ensures) ∙ d .if1 .left)))
 
 cast-steps : tie.Need-cast-steps
 cast-steps c = omega (arith, c .before .before .outline-area .ensures .few)
@@ -52,9 +41,8 @@ returns-2 : tie.Need-returns-2
 returns-2 c =
     let o = c .before .before in
     let b = o .before .before .before in
-    let n = b .before .before .before in
-    let d = n .before .before in
-    let e = rw (wide n, b .clipped .ensures, b .before .stroke-reach .ensures, o .before .of .ensures) at (o .outline-area .ensures) in
+    let d = b .before .before .before in
+    let e = rw (b .clipped .ensures, b .before .stroke-reach .ensures, o .before .of .ensures) at (o .outline-area .ensures) in
     accepted-shape (d .before .shape-number .ensures) (d .if1 .left) (drew-as e (sym (drawn-clip _ _ _ _ _)))
 
 pub outline-spec : {M : Type 1} → statement M
@@ -63,7 +51,6 @@ outline-spec =
     (tie.spec
     shape-number-requires
     returns
-    nat-of-requires
     stroke-reach-requires
     clipped-requires
     of-requires

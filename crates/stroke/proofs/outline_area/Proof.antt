@@ -18,7 +18,7 @@ returns c = search needs
 returns-2 : tie.Need-returns-2
 returns-2 c =
     let a = c .before .before .before .args in
-    drew-none (none-down (a .w) (outlineInk (a .s) (a .width) (a .c)) _ (a .b) (c .if1 .left))
+    drew-none (none-down (a .pitch) (outlineInk (a .s) (a .width) (a .c)) _ (a .b) (c .if1 .left))
 
 pub outline-area-spec : {M : Type 1} → statement M
 outline-area-spec = tie.close (tie.spec outline-all-requires same-length returns returns-2)

@@ -40,7 +40,7 @@ returns c =
     let f = c .before .before .before .before .before in
     let yc = f .before .before .before in
     let a = yc .before .before .args in
-    full-drawn (a .o .s) (a .o .width) (a .o .c) (a .y) (a .w) (a .x0) (a .x1) _ _
+    full-drawn (a .o .s) (a .o .width) (a .o .c) (a .y) (a .pitch) (a .x0) (a .x1) _ _
     (rw (← (yc .centre .ensures)) (sym (f .full-row .ensures) ∙ c .before .before .before .before .if1 .taken)) (c .before .before .full-span .ensures)
 
 same-length-2 : tie.Need-same-length-2

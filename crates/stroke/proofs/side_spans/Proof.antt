@@ -46,7 +46,7 @@ returns c =
     let st = e .before .before .before in
     let a = st .args in
     let gap = st .pre .1 .0 .1 in
-    sides-drawn (a .o .s) (a .o .width) (a .o .c) (a .y) (a .w) (a .x0) (a .x1) _ _ _ _ _ _ _ (st .pre .1 .0 .2) (st .pre .0 .order)
+    sides-drawn (a .o .s) (a .o .width) (a .o .c) (a .y) (a .pitch) (a .x0) (a .x1) _ _ _ _ _ _ _ (st .pre .1 .0 .2) (st .pre .0 .order)
     (gap .from) (gap .upto) (e .before .between .ensures) (e .between2 .ensures) (left .band-span .ensures) (c .before .before .band-span2 .ensures)
 
 pub side-spans-spec : {M : Type 1} → statement M
