@@ -1,5 +1,5 @@
--- The format is lawful: items that it calls the same are equal, no reading is refused by 0, and a shape's parts, drawn one after the other, are
--- the shape. Assumes nothing.
+-- The format is lawful: items that it calls the same are equal, a sheet has a row, no reading is refused by 0, and a shape's parts, drawn one
+-- after the other, are the shape. Assumes nothing.
 use Prim.Native.Nat.{ℕ, _/_, _%_, _≤_}
 use mathlib.Core.Path.{_≡_, refl, sym, ap, _∙_}
 use mathlib.Core.Bool.{Bool, true, false, cond, _&&_, false≢true}
@@ -8,7 +8,7 @@ use native.Mathlib.Omega.{arith}
 use lib.Dec.{eqb, leb}
 use lib.Ieee.{Float}
 use lib.IntN.{ℤ, pos, negsuc}
-use borrow.Author.Tests.{eqb-true, eqb-false, eq-eqb}
+use borrow.Author.Tests.{eqb-true, eqb-false, eq-eqb, leb-true}
 use Rattle.geom.proofs.Bools.{and-left, and-right, split}
 use Rattle.geom.specs.Int.{eqZ}
 use Rattle.geom.specs.Box.{boxOf, noBox, inside}
@@ -20,14 +20,16 @@ use Rattle.draw.specs.Parts.{reachAll, inkAll, drawnAll}
 use Rattle.draw.proofs.Onto.{onto-none}
 use Rattle.draw.proofs.Parts.{all-drawn, one-drawn}
 use Rattle.line.specs.Polylines.{chainOf}
-use Rattle.sheet.specs.Check.{sheetCheck}
+use Rattle.sheet.specs.Check.{heightOf, sheetCheck}
+use Rattle.sheet.proofs.Accepted as sheets
 use Rattle.redraw.specs.Drawing as drawing
 use Rattle.redraw.specs.Drawing.{push, pop, shape}
-use Rattle.redraw.specs.Sheet.{Reading, refused, read, Lawful}
+use Rattle.redraw.specs.Sheet.{Sheet, Reading, refused, read, Lawful}
 use Rattle.items.specs.Items.{itemOf, jointsOf}
 use Rattle.items.specs.Format.{reachOf, inkOf, partsOf, kind, drawnAs, itemIn, sameBytes, sameBox, sameItem, sheetOf, reading, format}
 use Rattle.items.specs.declared.Item.{Item}
 use Rattle.items.specs.declared.Item.the-variants.{Push, Pop, Fill, Stroke, Line, Poly, Shadow, Chain, Unknown}
+use Rattle.items.proofs.Readings.{read-is}
 
 pub bytes-equal : (a b : List ℕ) → sameBytes a b ≡ true → a ≡ b
 unfolding sameBytes
@@ -88,6 +90,12 @@ sound (shape a) (push b q) e = absurd (false≢true e)
 sound (shape a) (pop b) e = absurd (false≢true e)
 sound (shape a) (shape b) e = ap shape (bytes-equal a b e)
 
+-- the height is 1 to 2,048
+tall : (s : List ℕ) (t : Sheet (List ℕ)) → reading s ≡ read t → 1 ≤ t .h
+tall s t e =
+    let r = read-is s t e in
+    rw (r .1) (leb-true 1 (heightOf s) (and-left (leb 1 (heightOf s)) (leb (heightOf s) 2048) (sheets.accepted s (r .0) .height)))
+
 abbrev isRefused : Reading (List ℕ) → Bool
 isRefused (refused n k) = true
 isRefused (read s) = false
@@ -146,7 +154,7 @@ unfolding drawing.shapeOn
 whole b pitch clip px = parts-drawn pitch clip px b (itemOf b)
 
 pub lawful : Lawful format
-lawful = record { sound = sound; numbered = numbered; whole = whole }
+lawful = record { sound = sound; tall = tall; numbered = numbered; whole = whole }
 
 -- the bytes of an item
 abbrev bytesOf : drawing.Item (List ℕ) → List ℕ

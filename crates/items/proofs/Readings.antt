@@ -1,17 +1,18 @@
 -- The reading of a sheet, by what its check says; none is refused by 9. Assumes nothing.
 use Prim.Native.Nat.{ℕ, zero, suc, _+_}
-use mathlib.Core.Path.{_≡_, refl}
-use mathlib.Core.Bool.{Bool, true, false, cond}
+use mathlib.Core.Path.{_≡_, refl, ap}
+use mathlib.Core.Bool.{Bool, true, false, cond, false≢true}
 use mathlib.Core.List.{List}
 use native.Mathlib.Omega.{arith}
-use borrow.Author.Tests.{ne-eqb}
+use borrow.Author.Tests.{ne-eqb, eqb-true}
 use lib.Dec.{eqb, eqb·suc-zero}
 use Rattle.geom.specs.Refusals.{unless}
+use Rattle.geom.proofs.Bools.{split}
 use Rattle.sheet.specs.Kinds.{lengthOk, pointsOk, bytesOk, floatsOk, savedOk, itemNumber}
 use Rattle.sheet.specs.Check as checks
 use Rattle.sheet.specs.Check.{sizeOk, headerOk, pairsOk, headNumber, numberAt, depthAt, countOf, sheetCheck, verdict}
 use Rattle.sheet.specs.declared.check.Verdict.{Verdict}
-use Rattle.redraw.specs.Sheet.{read, refused}
+use Rattle.redraw.specs.Sheet.{Sheet, Reading, read, refused}
 use Rattle.items.specs.Format.{sheetOf, reading}
 
 -- no item is named beside the number 0
@@ -37,6 +38,24 @@ reads-refused s n k e h = rw (e, ne-eqb n 0 h)
 pub reads-accepted : (s : List ℕ) → sheetCheck s ≡ verdict 0 0 → reading s ≡ read (sheetOf s)
 unfolding reading
 reads-accepted s e = rw e
+
+isRead : Reading (List ℕ) → Bool
+isRead (refused n k) = false
+isRead (read t) = true
+
+not-read : {n k : ℕ} {t : Sheet (List ℕ)} → refused n k ≡ read t → ⊥
+unfolding isRead
+not-read e = false≢true (ap isRead e)
+
+-- bytes that are read passed every check, and are read as their sheet
+pub read-is : (s : List ℕ) (t : Sheet (List ℕ)) → reading s ≡ read t → (sheetCheck s ≡ verdict 0 0) × (t ≡ sheetOf s)
+unfolding reading
+read-is s t e =
+    split (eqb (sheetCheck s .number) 0)
+    (λ b. cond b (read (sheetOf s)) (refused (sheetCheck s .number) (sheetCheck s .item)) ≡ read t → (sheetCheck s ≡ verdict 0 0) × (t ≡ sheetOf s))
+    (λ z r. (clean s (eqb-true _ 0 z), cc))
+    (λ z r. absurd (not-read r))
+    e
 
 -- ---- no check of a sheet gives 9, which is said of lent scratch alone
 

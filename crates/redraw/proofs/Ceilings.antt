@@ -125,10 +125,12 @@ module _ (pitch n pixels : ℕ) (box : IRect) (counted : countTo (λ i. inside b
 abbrev BoxFits : ℕ → ℕ → IRect → Type 0
 BoxFits w h b = (up (b .x0) ≤ up (b .x1)) × (up (b .x1) ≤ w) × (up (b .y0) ≤ up (b .y1)) × (up (b .y1) ≤ h)
 
-count-box : (w h : ℕ) (b : IRect) → BoxFits w h b
-    → countTo (λ i. inside b (pos (i % w)) (pos (i / w))) (w * h) ≡ (up (b .x1) - up (b .x0)) * (up (b .y1) - up (b .y0))
-count-box w h b f =
-    sum-same _ _ (w * h) (λ i k. ap (λ (t : Bool). cond t 1 0) (in-area b (i % w) (i / w))) ∙ count-area w h (areaOf b) (f .0) (f .1) (f .2) (f .3)
+-- in rows of `pitch` words, that have room for w
+count-box : (pitch w h : ℕ) (b : IRect) → w ≤ pitch → BoxFits w h b
+    → countTo (λ i. inside b (pos (i % pitch)) (pos (i / pitch))) (pitch * h) ≡ (up (b .x1) - up (b .x0)) * (up (b .y1) - up (b .y0))
+count-box pitch w h b room f =
+    sum-same _ _ (pitch * h) (λ i k. ap (λ (t : Bool). cond t 1 0) (in-area b (i % pitch) (i / pitch)))
+    ∙ count-area pitch h (areaOf b) (f .0) (omega (arith, f .1, room)) (f .2) (f .3)
 
 hull-fits : {Shape : Type 0} (s : Sheet Shape) (bs : List IRect) → BoxFits (s .w) (s .h) (hull (canvas s) bs)
 unfolding canvas noBox
@@ -143,16 +145,17 @@ hull-fits s bs = go (empty box) refl
 
 -- ---- a call that draws a sheet in a box
 
-module _ (K : Kind) (s : Sheet (K .Shape)) (box : IRect) (fits : BoxFits (s .w) (s .h) box) (px : List ℕ) (long : length px ≡ s .w * s .h) where
-  steps-most : stepsOf K (draws s box) px ≤ shapesMeeting K box (s .items) * boxArea box
+module _ (K : Kind) (pitch : ℕ) (s : Sheet (K .Shape)) (box : IRect) (fits : BoxFits (s .w) (s .h) box) (room : s .w ≤ pitch)
+    (px : List ℕ) (long : length px ≡ pitch * s .h) where
+  steps-most : stepsOf K pitch (draws s box) px ≤ shapesMeeting K box (s .items) * boxArea box
   unfolding stepsOf
   steps-most =
-      items-most (s .w) (s .w * s .h) _ box (count-box (s .w) (s .h) box fits) K (s .items) (only box) _
-      (length-ground (s .w) box (s .ground) px ∙ long) (λ x y o. record { clips = o; saves = none })
+      items-most pitch (pitch * s .h) _ box (count-box pitch (s .w) (s .h) box room fits) K (s .items) (only box) _
+      (length-ground pitch box (s .ground) px ∙ long) (λ x y o. record { clips = o; saves = none })
 
-  grounds-most : groundsOf K (draws s box) px ≤ boxArea box
+  grounds-most : groundsOf K pitch (draws s box) px ≤ boxArea box
   unfolding groundsOf
-  grounds-most = ground-most (s .w) (s .w * s .h) _ box (count-box (s .w) (s .h) box fits) (s .ground) px long
+  grounds-most = ground-most pitch (pitch * s .h) _ box (count-box pitch (s .w) (s .h) box room fits) (s .ground) px long
 
 -- ---- an empty box has no pixel
 
@@ -175,26 +178,28 @@ least h = omega arith
 -- ---- a patch
 
 module _ {Word : Type 0} (zeroWord : Word) (F : Format) where
-  module _ (old new px : List ℕ) (scratch : List Word) (r : Reply) (px′ : List ℕ) (scratch′ : List Word)
-      (did : Patched zeroWord F old new px scratch r px′ scratch′) where
+  module _ (old new : List ℕ) (pitch : ℕ) (px : List ℕ) (scratch : List Word) (r : Reply) (px′ : List ℕ) (scratch′ : List Word)
+      (did : Patched zeroWord F old new pitch px scratch r px′ scratch′) where
     abbrev Bounded : Type 0
     Bounded =
         (r .steps ≤ readMeeting (F .kind) (r .answer .area) (F .reading new) * boxArea (r .answer .area)) × (r .grounded ≤ boxArea (r .answer .area))
 
     bounded : Bounded
     unfolding stepsOf groundsOf answer accepted readMeeting
-    bounded = go (patching F old new (length px) (length scratch)) refl
+    bounded = go (patching F old new pitch (length px) (length scratch)) refl
       where
-        go : (o : Outcome (F .kind .Shape)) → patching F old new (length px) (length scratch) ≡ o → Bounded
+        go : (o : Outcome (F .kind .Shape)) → patching F old new pitch (length px) (length scratch) ≡ o → Bounded
         go (refuses n k) e = rw (did .steps, did .grounds, e) (omega arith, omega arith)
         go (draws t b) e =
-            let p = patch-accepted F old new (length px) (length scratch) (ap accepted e) in
-            rw (did .answers, did .steps, did .grounds, p .is, p .reads-to)
-            (steps-most (F .kind) (p .to) _ (hull-fits (p .to) _) px (p .long), grounds-most (F .kind) (p .to) _ (hull-fits (p .to) _) px (p .long))
+            let p = patch-accepted F old new pitch (length px) (length scratch) (ap accepted e) in
+            rw (did .answers, did .steps, did .grounds, p .is, p .reads-to) (
+              steps-most (F .kind) pitch (p .to) _ (hull-fits (p .to) _) (p .lends .frame .rows .room) px (p .lends .frame .long),
+              grounds-most (F .kind) pitch (p .to) _ (hull-fits (p .to) _) (p .lends .frame .rows .room) px (p .lends .frame .long),
+            )
 
   pub ceiling : PatchCeiling zeroWord F
-  ceiling old new px scratch r px′ scratch′ did =
-      let most = bounded old new px scratch r px′ scratch′ did in
+  ceiling old new pitch px scratch r px′ scratch′ did =
+      let most = bounded old new pitch px scratch r px′ scratch′ did in
       record {
         shapes = most .0;
         ground = most .1;

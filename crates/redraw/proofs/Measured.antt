@@ -6,13 +6,15 @@ use Prim.Native.Nat.{ℕ, _+_, _*_, _≤_, _<_}
 use native.Mathlib.Omega.{arith}
 use lib.Dec.{eqb}
 use lib.ListN.{length}
-use borrow.Author.Tests.{le-leb}
+use borrow.Author.Tests.{le-leb, lt-leb, eq-eqb}
+use Rattle.geom.specs.Refusals.{unless, andThen}
+use Rattle.draw.specs.Frame.{pitchOk, pitchNumber, frameNumber}
 use Rattle.geom.specs.Box.{hull}
 use Rattle.geom.specs.declared.IRect.{IRect}
 use Rattle.redraw.specs.Drawing.{Item, push, pop, shape, Clips, after, withStep, steps, Kind}
-use Rattle.redraw.specs.Sheet.{Format, Sheet, Reading, read, refused, Change, other, shapes, change, reaches, refuses, draws, few, tooMany, canvas, sameHeader, lent, paintOf, patchBy, patchOf, painting, patching}
+use Rattle.redraw.specs.Sheet.{Format, Sheet, Reading, read, refused, Change, other, shapes, change, reaches, refuses, draws, few, tooMany, canvas, sameHeader, drawsUnless, lentNumber, lent, paintOf, patchBy, patchOf, painting, patching}
 use Rattle.redraw.specs.Measure.{deepest, met, metAll, roomOf, measuring, Least}
-use Rattle.redraw.proofs.Rules.{paint-9}
+use Rattle.redraw.proofs.Rules.{paint-unlent}
 
 -- as many clips as are saved now
 pub deepest-least : {Shape : Type 0} (r : List (Item Shape)) (c : Clips) → length (c .saved) ≤ deepest r c
@@ -41,37 +43,45 @@ module _ (F : Format) where
   unfolding measuring roomOf
   told sheet s e = ap (λ (r : Reading (F .kind .Shape)). roomOf F r .words) e
 
-  lent-enough : (s : Sheet (F .kind .Shape)) (pl sl : ℕ) (box : IRect) (k : ℕ) → F .need (s .items) ≤ sl → lent F s pl sl box ≡ refuses 9 k → ⊥
-  unfolding lent
-  lent-enough s pl sl box k l q = by (eqb pl (s .w * s .h)) (rw (le-leb (F .need (s .items)) sl l) at q)
+  -- with words enough the number of what is lent is not 9
+  lent-enough : (s : Sheet (F .kind .Shape)) (pitch pl sl : ℕ) (box : IRect) (k : ℕ) → F .need (s .items) ≤ sl → lent F s pitch pl sl box ≡ refuses 9 k → ⊥
+  unfolding lent drawsUnless lentNumber frameNumber pitchNumber
+  lent-enough s pitch pl sl box k l q = by (pitchOk (s .w) pitch) (eqb pl (pitch * s .h)) (rw (le-leb (F .need (s .items)) sl l) at q)
     where
-      by : (t : Bool) → cond t (draws s box) (refuses 8 0) ≡ refuses 9 k → ⊥
-      by true q = let z : _≡_ {A = ℕ} 0 1 = cc in omega arith
-      by false q = let z : _≡_ {A = ℕ} 8 9 = cc in omega arith
+      by : (t u : Bool) → cond (eqb (andThen (andThen (unless t 15 0) (unless u 8 0)) 0) 0) (draws s box) (refuses (andThen (andThen (unless t 15 0) (unless u 8 0)) 0) 0) ≡ refuses 9 k → ⊥
+      by true true q = let z : _≡_ {A = ℕ} 0 1 = cc in omega arith
+      by true false q = let z : _≡_ {A = ℕ} 8 9 = cc in omega arith
+      by false u q = let z : _≡_ {A = ℕ} 15 9 = cc in omega arith
 
-  change-enough : (c : Change (F .kind .Shape)) (s : Sheet (F .kind .Shape)) (pl sl k : ℕ) → F .need (s .items) ≤ sl → patchBy F c s pl sl ≡ refuses 9 k → ⊥
+  -- with fewer it is, where px is h rows of a pitch in its range
+  lent-fewer : (s : Sheet (F .kind .Shape)) (pitch sl : ℕ) → pitchOk (s .w) pitch ≡ true → sl < F .need (s .items) → lentNumber F s pitch (pitch * s .h) sl ≡ 9
+  unfolding lentNumber frameNumber pitchNumber
+  lent-fewer s pitch sl r l = rw (r, eq-eqb (pitch * s .h) (pitch * s .h) refl, lt-leb (F .need (s .items)) sl l)
+
+  change-enough : (c : Change (F .kind .Shape)) (s : Sheet (F .kind .Shape)) (pitch pl sl k : ℕ) → F .need (s .items) ≤ sl → patchBy F c s pitch pl sl ≡ refuses 9 k → ⊥
   unfolding patchBy tooMany
-  change-enough other s pl sl k l q = let z : _≡_ {A = ℕ} 10 9 = cc in omega arith
-  change-enough (shapes p) s pl sl k l q = by (few p) q
+  change-enough other s pitch pl sl k l q = let z : _≡_ {A = ℕ} 10 9 = cc in omega arith
+  change-enough (shapes p) s pitch pl sl k l q = by (few p) q
     where
-      by : (t : Bool) → cond t (lent F s pl sl (hull (canvas s) (reaches (F .kind .reach) p))) (refuses 14 0) ≡ refuses 9 k → ⊥
-      by true q = lent-enough s pl sl _ k l q
+      by : (t : Bool) → cond t (lent F s pitch pl sl (hull (canvas s) (reaches (F .kind .reach) p))) (refuses 14 0) ≡ refuses 9 k → ⊥
+      by true q = lent-enough s pitch pl sl _ k l q
       by false q = let z : _≡_ {A = ℕ} 14 9 = cc in omega arith
 
   -- for a format whose reading has no use for that number
   module _ (unused : (sheet : List ℕ) (k : ℕ) → F .reading sheet ≡ refused 9 k → ⊥) (sheet : List ℕ) where
-    enough : (r : Reading (F .kind .Shape)) → F .reading sheet ≡ r → (pl sl k : ℕ) → measuring F sheet .words ≤ sl → painting F sheet pl sl ≡ refuses 9 k → ⊥
+    enough : (r : Reading (F .kind .Shape)) → F .reading sheet ≡ r → (pitch pl sl k : ℕ) → measuring F sheet .words ≤ sl → painting F sheet pitch pl sl ≡ refuses 9 k → ⊥
     unfolding painting paintOf
-    enough (read s) e pl sl k l q = lent-enough s pl sl (canvas s) k (rw (told sheet s e) at l) (rw e at q)
-    enough (refused n i) e pl sl k l q =
+    enough (read s) e pitch pl sl k l q = lent-enough s pitch pl sl (canvas s) k (rw (told sheet s e) at l) (rw e at q)
+    enough (refused n i) e pitch pl sl k l q =
         let nine : n ≡ 9 = cc in
         unused sheet i (rw nine at e)
 
-    fewer : (s : Sheet (F .kind .Shape)) → F .reading sheet ≡ read s → (sl : ℕ) → sl < measuring F sheet .words → painting F sheet (s .w * s .h) sl ≡ refuses 9 0
-    fewer s e sl l = paint-9 F sheet (s .w * s .h) sl s e refl (rw (told sheet s e) at l)
+    fewer : (s : Sheet (F .kind .Shape)) → F .reading sheet ≡ read s → (pitch : ℕ) → pitchOk (s .w) pitch ≡ true → (sl : ℕ) → sl < measuring F sheet .words
+        → painting F sheet pitch (pitch * s .h) sl ≡ refuses 9 0
+    fewer s e pitch r sl l = paint-unlent F sheet pitch (pitch * s .h) sl s e 9 (lent-fewer s pitch sl r (rw (told sheet s e) at l)) (λ z. omega arith)
 
-    module _ (old : List ℕ) (pl sl k : ℕ) (l : measuring F sheet .words ≤ sl) where
-      patched : (r o : Reading (F .kind .Shape)) → F .reading sheet ≡ r → F .reading old ≡ o → patchOf F o r pl sl ≡ refuses 9 k → ⊥
+    module _ (old : List ℕ) (pitch pl sl k : ℕ) (l : measuring F sheet .words ≤ sl) where
+      patched : (r o : Reading (F .kind .Shape)) → F .reading sheet ≡ r → F .reading old ≡ o → patchOf F o r pitch pl sl ≡ refuses 9 k → ⊥
       unfolding patchOf
       patched r (refused n i) e d q =
           let nine : n ≡ 9 = cc in
@@ -81,8 +91,8 @@ module _ (F : Format) where
           unused sheet i (rw nine at e)
       patched (read s) (read a) e d q = by (sameHeader a s) q
         where
-          by : (t : Bool) → cond t (patchBy F (change (F .same) (a .items) (s .items)) s pl sl) (refuses 10 0) ≡ refuses 9 k → ⊥
-          by true q = change-enough _ s pl sl k (rw (told sheet s e) at l) q
+          by : (t : Bool) → cond t (patchBy F (change (F .same) (a .items) (s .items)) s pitch pl sl) (refuses 10 0) ≡ refuses 9 k → ⊥
+          by true q = change-enough _ s pitch pl sl k (rw (told sheet s e) at l) q
           by false q = let z : _≡_ {A = ℕ} 10 9 = cc in omega arith
 
     pub least : Least F sheet (measuring F sheet .words)
@@ -91,5 +101,5 @@ module _ (F : Format) where
         record {
           enough = enough (F .reading sheet) refl;
           fewer = fewer;
-          patched = λ old pl sl k l q. patched old pl sl k l (F .reading sheet) (F .reading old) refl refl q;
+          patched = λ old pitch pl sl k l q. patched old pitch pl sl k l (F .reading sheet) (F .reading old) refl refl q;
         }

@@ -1,6 +1,6 @@
 -- Sums over places: in two runs, and by columns and rows. An area that lies in w columns and h rows has as many places as its sides multiply to.
 -- Assumes nothing.
-use mathlib.Core.Path.{_≡_, refl, ap, _∙_}
+use mathlib.Core.Path.{_≡_, refl, sym, ap, ap₂, _∙_}
 use mathlib.Core.Bool.{Bool, true, false, cond, _&&_}
 use Prim.Native.Nat.{ℕ, zero, suc, _+_, _*_, _-_, _/_, _%_, _≤_, _<_, min}
 use native.Mathlib.Nat.{suc-mul, zero-mul, mul-comm, add-assoc, zero-add}
@@ -34,6 +34,24 @@ sum-add f m (suc n) =
 pub sum-first : (f : ℕ → ℕ) (n : ℕ) → sumTo f (suc n) ≡ f 0 + sumTo (λ i. f (1 + i)) n
 unfolding sumTo
 sum-first f n = let e : suc n ≡ 1 + n = omega arith in ap (sumTo f) e ∙ sum-add f 1 n ∙ ap (λ (a : ℕ). a + sumTo (λ i. f (1 + i)) n) (zero-add (f 0))
+
+-- h rows of p words, of which only the first w count, have the sum of h rows of w words with the same in them
+pub sum-rows : (f g : ℕ → ℕ) (w p h : ℕ) → w ≤ p → ((x y : ℕ) → x < w → y < h → f (y * p + x) ≡ g (y * w + x))
+    → ((x y : ℕ) → w ≤ x → x < p → y < h → f (y * p + x) ≡ 0) → sumTo f (h * p) ≡ sumTo g (h * w)
+unfolding sumTo
+sum-rows f g w p zero r same none = rw (zero-mul p, zero-mul w)
+sum-rows f g w p (suc h) r same none =
+    rw (suc-mul h p, suc-mul h w)
+    (sum-add f (h * p) p
+    ∙ ap₂ (λ (m n : ℕ). m + n) (sum-rows f g w p h r (λ x y k l. same x y k (omega arith)) (λ x y k m l. none x y k m (omega arith))) row
+    ∙ sym (sum-add g (h * w) w))
+  where
+    row : sumTo (λ i. f (h * p + i)) p ≡ sumTo (λ i. g (h * w + i)) w
+    row =
+        let whole : p ≡ w + (p - w) = omega arith in
+        let first = sum-same (λ i. f (h * p + i)) (λ i. g (h * w + i)) w (λ x k. same x h k (omega arith)) in
+        let past = sum-none (λ i. f (h * p + (w + i))) (p - w) (λ i k. none (w + i) h (omega arith) (omega arith) (omega arith)) in
+        ap (sumTo (λ i. f (h * p + i))) whole ∙ sum-add (λ i. f (h * p + i)) w (p - w) ∙ omega (arith, first, past)
 
 -- columns by a test p, rows by a test q
 module _ (w : ℕ) (p q : ℕ → Bool) where

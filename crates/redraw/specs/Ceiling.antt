@@ -45,10 +45,10 @@ module _ (K : Kind) where
     pub none : empty (r .answer .area) ≡ true → (r .steps ≡ 0) × (r .grounded ≡ 0)
 
 module _ {Word : Type 0} (zeroWord : Word) (F : Format) where
-  -- "For every accepted patch": for any bytes, px and scratch that `patch` was given, and what it returned and left, by its contract. A refused
+  -- "For every accepted patch": for any bytes, pitch, px and scratch that `patch` was given, and what it returned and left, by its contract. A refused
   -- patch has four zeros and no counts, and is not left out.
   abbrev pub PatchCeiling : Type 0
   PatchCeiling =
-      (old new px : List ℕ) (scratch : List Word) (r : Reply) (px′ : List ℕ) (scratch′ : List Word)
-      → Patched zeroWord F old new px scratch r px′ scratch′
+      (old new : List ℕ) (pitch : ℕ) (px : List ℕ) (scratch : List Word) (r : Reply) (px′ : List ℕ) (scratch′ : List Word)
+      → Patched zeroWord F old new pitch px scratch r px′ scratch′
       → Ceiling (F .kind) (F .reading new) r

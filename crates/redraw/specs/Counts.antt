@@ -21,14 +21,14 @@ module _ (K : Kind) where
   itemsAlter pitch [] c px = 0
   itemsAlter pitch (i ∷ r) c px = itemAlters pitch i (c .clip) px + itemsAlter pitch r (after i c) (itemOn K pitch i (c .clip) px)
 
-  -- of a call with an outcome, on px: by its shapes, and by the ground
-  unfoldable pub stepsOf : Outcome (K .Shape) → List ℕ → ℕ
-  stepsOf (refuses n k) px = 0
-  stepsOf (draws s box) px = itemsAlter (s .w) (s .items) (only box) (groundIn (s .w) box (s .ground) px)
+  -- of a call with an outcome, on px in rows of `pitch` words: by its shapes, and by the ground
+  unfoldable pub stepsOf : ℕ → Outcome (K .Shape) → List ℕ → ℕ
+  stepsOf pitch (refuses n k) px = 0
+  stepsOf pitch (draws s box) px = itemsAlter pitch (s .items) (only box) (groundIn pitch box (s .ground) px)
 
-  unfoldable pub groundsOf : Outcome (K .Shape) → List ℕ → ℕ
-  groundsOf (refuses n k) px = 0
-  groundsOf (draws s box) px = differ px (groundIn (s .w) box (s .ground) px)
+  unfoldable pub groundsOf : ℕ → Outcome (K .Shape) → List ℕ → ℕ
+  groundsOf pitch (refuses n k) px = 0
+  groundsOf pitch (draws s box) px = differ px (groundIn pitch box (s .ground) px)
 
   -- how busy a sheet is: the steps of its fresh painting
   unfoldable pub freshSteps : Sheet (K .Shape) → ℕ

@@ -1,9 +1,11 @@
 -- What painting a sheet takes, as definitions over any kind of shape and any reading of bytes: its scratch words, the most clips that it has
 -- saved at once, and the pixels in reach and clip together, summed over its shapes.
 use mathlib.Core.List.{List, [], _∷_}
+use mathlib.Core.Bool.{true}
 use mathlib.Core.Path.{_≡_}
 use Prim.Native.Nat.{ℕ, _+_, _*_, _%_, _/_, _≤_, _<_, max}
 use lib.ListN.{length}
+use Rattle.draw.specs.Frame.{pitchOk}
 use Rattle.redraw.specs.declared.Room.{Room}
 use Rattle.redraw.specs.Sums.{countTo}
 use Rattle.redraw.specs.Drawing.{Item, Clips, after, Step, steps, Kind, meets, only}
@@ -35,9 +37,10 @@ module _ (F : Format) where
   unfoldable pub measuring : List ℕ → Room
   measuring sheet = roomOf (F .reading sheet)
 
-  -- So many words are the least with which painting some bytes is not refused by 9: with as many it is not, whatever px is; with fewer it is, where
-  -- px has w × h words. With as many no patch to them is refused by 9 either.
+  -- So many words are the least with which painting some bytes is not refused by 9: with as many it is not, whatever pitch and px are; with fewer it
+  -- is, where px is h rows of a pitch that is in its range. With as many no patch to them is refused by 9 either.
   pub record Least (sheet : List ℕ) (words : ℕ) : Type 0 where
-    pub enough : (pl sl k : ℕ) → words ≤ sl → painting F sheet pl sl ≡ refuses 9 k → ⊥
-    pub fewer : (s : Sheet (F .kind .Shape)) → F .reading sheet ≡ read s → (sl : ℕ) → sl < words → painting F sheet (s .w * s .h) sl ≡ refuses 9 0
-    pub patched : (old : List ℕ) (pl sl k : ℕ) → words ≤ sl → patching F old sheet pl sl ≡ refuses 9 k → ⊥
+    pub enough : (pitch pl sl k : ℕ) → words ≤ sl → painting F sheet pitch pl sl ≡ refuses 9 k → ⊥
+    pub fewer : (s : Sheet (F .kind .Shape)) → F .reading sheet ≡ read s → (pitch : ℕ) → pitchOk (s .w) pitch ≡ true → (sl : ℕ) → sl < words
+        → painting F sheet pitch (pitch * s .h) sl ≡ refuses 9 0
+    pub patched : (old : List ℕ) (pitch pl sl k : ℕ) → words ≤ sl → patching F old sheet pitch pl sl ≡ refuses 9 k → ⊥

@@ -1,5 +1,5 @@
 -- Painting and patching a sheet, as definitions over any kind of shape and any reading of bytes: what a call answers, by the two
--- sheets and the lengths of px and scratch alone, and what it leaves in px and scratch.
+-- sheets, the pitch and the lengths of px and scratch alone, and what it leaves in px and scratch.
 use mathlib.Core.Bool.{Bool, true, false, cond, _&&_}
 use mathlib.Core.List.{List, [], _∷_, _++_}
 use mathlib.Core.Path.{_≡_}
@@ -10,6 +10,8 @@ use lib.ListN.{length, drop, replicate}
 use Rattle.redraw.specs.declared.Answer.{Answer}
 use Rattle.geom.specs.declared.IRect.{IRect}
 use Rattle.geom.specs.Box.{noBox, hull}
+use Rattle.geom.specs.Refusals.{unless, andThen}
+use Rattle.draw.specs.Frame.{frameNumber}
 use Rattle.draw.specs.Parts.{drawnAll}
 use Rattle.redraw.specs.Drawing.{Item, push, pop, shape, Kind, only, shapeOn, itemsOn, groundIn}
 
@@ -33,10 +35,11 @@ pub record Format : Type 1 where
   pub need : List (Item (kind .Shape)) → ℕ
   pub same : Item (kind .Shape) → Item (kind .Shape) → Bool
 
--- What a format has to prove: items that it calls the same are equal, no reading is refused by 0, and a shape's parts, drawn one after the
--- other, are the shape.
+-- What a format has to prove: items that it calls the same are equal, a sheet has a row, no reading is refused by 0, and a shape's parts, drawn
+-- one after the other, are the shape.
 pub record Lawful (F : Format) : Type 0 where
   pub sound : (i j : Item (F .kind .Shape)) → F .same i j ≡ true → i ≡ j
+  pub tall : (sheet : List ℕ) (s : Sheet (F .kind .Shape)) → F .reading sheet ≡ read s → 1 ≤ s .h
   pub numbered : (sheet : List ℕ) (n k : ℕ) → F .reading sheet ≡ refused n k → 1 ≤ n
   pub whole : (a : F .kind .Shape) (pitch : ℕ) (c : IRect) (px : List ℕ) → drawnAll pitch c (F .kind .parts a) px ≡ shapeOn (F .kind) pitch c a px
 
@@ -90,32 +93,39 @@ canvas s = record { x0 = pos 0; y0 = pos 0; x1 = pos (s .w); y1 = pos (s .h) }
 unfoldable pub sameHeader : {Shape : Type 0} → Sheet Shape → Sheet Shape → Bool
 sameHeader a b = (eqb (a .w) (b .w) && eqb (a .h) (b .h)) && eqb (a .ground) (b .ground)
 
+-- refuses by a number that is not 0; else draws the sheet in the box
+unfoldable pub drawsUnless : {Shape : Type 0} → ℕ → Sheet Shape → IRect → Outcome Shape
+drawsUnless n s box = cond (eqb n 0) (draws s box) (refuses n 0)
+
 module _ (F : Format) where
-  -- refusals 8 and 9, which read px and scratch by their lengths
-  unfoldable pub lent : Sheet (F .kind .Shape) → ℕ → ℕ → IRect → Outcome (F .kind .Shape)
-  lent s pxLen scratchLen box =
-      cond (eqb pxLen (s .w * s .h)) (cond (leb (F .need (s .items)) scratchLen) (draws s box) (refuses 9 0)) (refuses 8 0)
+  -- the number by what is lent, the pitch, and px and scratch by their lengths: 15, then 8, then 9, or 0
+  unfoldable pub lentNumber : Sheet (F .kind .Shape) → ℕ → ℕ → ℕ → ℕ
+  lentNumber s pitch pxLen scratchLen =
+      andThen (frameNumber (s .w) (s .h) pitch pxLen) (unless (leb (F .need (s .items)) scratchLen) 9 0)
 
-  unfoldable pub paintOf : Reading (F .kind .Shape) → ℕ → ℕ → Outcome (F .kind .Shape)
-  paintOf (refused n k) pxLen scratchLen = refuses n k
-  paintOf (read s) pxLen scratchLen = lent s pxLen scratchLen (canvas s)
+  unfoldable pub lent : Sheet (F .kind .Shape) → ℕ → ℕ → ℕ → IRect → Outcome (F .kind .Shape)
+  lent s pitch pxLen scratchLen box = drawsUnless (lentNumber s pitch pxLen scratchLen) s box
 
-  unfoldable pub patchBy : Change (F .kind .Shape) → Sheet (F .kind .Shape) → ℕ → ℕ → Outcome (F .kind .Shape)
-  patchBy other s pxLen scratchLen = refuses 10 0
-  patchBy (shapes l) s pxLen scratchLen =
-      cond (few l) (lent s pxLen scratchLen (hull (canvas s) (reaches (F .kind .reach) l))) tooMany
+  unfoldable pub paintOf : Reading (F .kind .Shape) → ℕ → ℕ → ℕ → Outcome (F .kind .Shape)
+  paintOf (refused n k) pitch pxLen scratchLen = refuses n k
+  paintOf (read s) pitch pxLen scratchLen = lent s pitch pxLen scratchLen (canvas s)
 
-  unfoldable pub patchOf : Reading (F .kind .Shape) → Reading (F .kind .Shape) → ℕ → ℕ → Outcome (F .kind .Shape)
-  patchOf (refused n k) new pxLen scratchLen = refuses n k
-  patchOf (read a) (refused n k) pxLen scratchLen = refuses n k
-  patchOf (read a) (read b) pxLen scratchLen =
-      cond (sameHeader a b) (patchBy (change (F .same) (a .items) (b .items)) b pxLen scratchLen) (refuses 10 0)
+  unfoldable pub patchBy : Change (F .kind .Shape) → Sheet (F .kind .Shape) → ℕ → ℕ → ℕ → Outcome (F .kind .Shape)
+  patchBy other s pitch pxLen scratchLen = refuses 10 0
+  patchBy (shapes l) s pitch pxLen scratchLen =
+      cond (few l) (lent s pitch pxLen scratchLen (hull (canvas s) (reaches (F .kind .reach) l))) tooMany
+
+  unfoldable pub patchOf : Reading (F .kind .Shape) → Reading (F .kind .Shape) → ℕ → ℕ → ℕ → Outcome (F .kind .Shape)
+  patchOf (refused n k) new pitch pxLen scratchLen = refuses n k
+  patchOf (read a) (refused n k) pitch pxLen scratchLen = refuses n k
+  patchOf (read a) (read b) pitch pxLen scratchLen =
+      cond (sameHeader a b) (patchBy (change (F .same) (a .items) (b .items)) b pitch pxLen scratchLen) (refuses 10 0)
 
   -- the outcome of painting some bytes, and of patching from old bytes to new ones
-  unfoldable pub painting : List ℕ → ℕ → ℕ → Outcome (F .kind .Shape)
+  unfoldable pub painting : List ℕ → ℕ → ℕ → ℕ → Outcome (F .kind .Shape)
   painting sheet = paintOf (F .reading sheet)
 
-  unfoldable pub patching : List ℕ → List ℕ → ℕ → ℕ → Outcome (F .kind .Shape)
+  unfoldable pub patching : List ℕ → List ℕ → ℕ → ℕ → ℕ → Outcome (F .kind .Shape)
   patching old new = patchOf (F .reading old) (F .reading new)
 
 -- ---- number, item and box; px; scratch; the sheet that is kept
@@ -127,9 +137,10 @@ unfoldable pub answer : {Shape : Type 0} → Outcome Shape → Answer
 answer (refuses n k) = refusal n k
 answer (draws s box) = record { number = 0; item = 0; area = box }
 
-unfoldable pub pixels : (K : Kind) → Outcome (K .Shape) → List ℕ → List ℕ
-pixels K (refuses n k) px = px
-pixels K (draws s box) px = itemsOn K (s .w) (s .items) (only box) (groundIn (s .w) box (s .ground) px)
+-- px, in rows of `pitch` words
+unfoldable pub pixels : (K : Kind) → ℕ → Outcome (K .Shape) → List ℕ → List ℕ
+pixels K pitch (refuses n k) px = px
+pixels K pitch (draws s box) px = itemsOn K pitch (s .items) (only box) (groundIn pitch box (s .ground) px)
 
 module _ {Word : Type 0} (zeroWord : Word) (F : Format) where
   unfoldable pub cleared : Outcome (F .kind .Shape) → List Word → List Word
@@ -141,7 +152,7 @@ accepted (refuses n k) = false
 accepted (draws s box) = true
 
 -- The fresh painting of a sheet: every pixel begins with the ground, the canvas as clip and nothing saved, and the items are drawn
--- one after the other.
+-- one after the other. It has w words a row: the pitch is no part of a sheet.
 module _ (K : Kind) where
   unfoldable pub fresh : Sheet (K .Shape) → List ℕ
   fresh s = itemsOn K (s .w) (s .items) (only (canvas s)) (replicate (s .w * s .h) (s .ground))

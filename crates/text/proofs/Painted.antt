@@ -1,43 +1,25 @@
 -- What painting leaves, as text: by its number the picture of px, or the refusal. Assumes nothing.
 use Prim.Native.Nat.{ℕ, _<_}
 use mathlib.Core.Path.{_≡_, sym, ap, _∙_}
-use mathlib.Core.Bool.{Bool, true, false, cond, false≢true}
+use mathlib.Core.Bool.{true}
 use mathlib.Core.List.{List}
-use borrow.Author.Tests.{leb-true, eqb-true}
-use lib.Dec.{leb, eqb}
+use borrow.Author.Tests.{leb-true}
+use lib.Dec.{leb}
 use lib.Ieee.{Float}
 use lib.ListN.{length}
-use Rattle.geom.proofs.Bools.{and-left, split}
-use Rattle.sheet.specs.Check.{widthOf, sheetCheck, verdict}
+use Rattle.geom.proofs.Bools.{and-left}
+use Rattle.sheet.specs.Check.{widthOf}
 use Rattle.sheet.proofs.Accepted as sheets
 use Rattle.redraw.specs.declared.Answer.{Answer}
 use Rattle.redraw.specs.declared.Reply.{Reply}
-use Rattle.redraw.specs.Sheet.{Sheet, Reading, read, refused, Outcome, refuses, draws, painting, answer, refusal, accepted, fresh}
+use Rattle.redraw.specs.Sheet.{Sheet, Outcome, refuses, draws, painting, answer, refusal, accepted, fresh}
 use Rattle.redraw.specs.Calls.{Painted}
 use Rattle.redraw.proofs.Lists.{Paints, paint-accepted, paint-numbered, zero-accepted, shown-first}
-use Rattle.items.specs.Format.{kind, reading, sheetOf, format, zeroWord}
+use Rattle.items.specs.Format.{kind, sheetOf, format, zeroWord}
 use Rattle.items.proofs.Lawful.{lawful}
-use Rattle.items.proofs.Readings.{clean}
+use Rattle.items.proofs.Readings.{read-is}
 use Rattle.text.specs.Picture.{pictureOf}
 use Rattle.text.specs.Text.{refusalText, outcomeText}
-
-isRead : Reading (List ℕ) → Bool
-isRead (refused n k) = false
-isRead (read t) = true
-
-not-read : {n k : ℕ} {t : Sheet (List ℕ)} → refused n k ≡ read t → ⊥
-unfolding isRead
-not-read e = false≢true (ap isRead e)
-
--- bytes that are read passed every check, and are read as their sheet
-read-is : (s : List ℕ) (t : Sheet (List ℕ)) → reading s ≡ read t → (sheetCheck s ≡ verdict 0 0) × (t ≡ sheetOf s)
-unfolding reading
-read-is s t e =
-    split (eqb (sheetCheck s .number) 0)
-    (λ b. cond b (read (sheetOf s)) (refused (sheetCheck s .number) (sheetCheck s .item)) ≡ read t → (sheetCheck s ≡ verdict 0 0) × (t ≡ sheetOf s))
-    (λ z r. (clean s (eqb-true _ 0 z), cc))
-    (λ z r. absurd (not-read r))
-    e
 
 refused-text : (o : Outcome (List ℕ)) (a : Answer) → a ≡ answer o → (a .number ≡ 0 → ⊥) → outcomeText o ≡ refusalText (a .number) (a .item)
 unfolding outcomeText answer refusal
