@@ -12,7 +12,7 @@ use Rattle.geom.proofs.Bools.{and-left, and-right, split}
 use Rattle.gfx.specs.State.{pushed, unsaved, popped}
 use Rattle.gfx.specs.Calls.{answer, pushNumber}
 use Rattle.gfx.specs.declared.Canvas.{Canvas}
-use Rattle.gfx.proofs.Kept.{Sound, push-clip-sound, pop-sound}
+use Rattle.gfx.proofs.Kept.{Sound, sound-state, push-clip-sound, pop-sound}
 use Rattle.items.specs.Format.{drawnAs}
 use Rattle.items.specs.declared.Item.{Item}
 use Rattle.items.specs.declared.Item.the-variants.{Push, Pop, Fill, Stroke, Line, Poly, Shadow, Chain, Unknown}
@@ -26,6 +26,7 @@ pub record After (b : List ℕ) (i : Item) (c r : Canvas) : Type 0 where
   pub sound : Sound r
   pub wide : r .w ≡ c .w
   pub high : r .h ≡ c .h
+  pub row : r .pitch ≡ c .pitch
   pub depth : r .depth ≡ savedAfter i (c .depth)
   pub clips : clipsOf r ≡ drawing.after (drawnAs b i) (clipsOf c)
 
@@ -37,10 +38,14 @@ height-kept : (c : Canvas) → unsaved c .h ≡ c .h
 unfolding unsaved
 height-kept c = refl
 
+pitch-kept : (c : Canvas) → unsaved c .pitch ≡ c .pitch
+unfolding unsaved
+pitch-kept c = refl
+
 module _ (b : List ℕ) (c : Canvas) (s : Sound c) where
   push-accepted : (rect : Rect) → rectOk rect && ltb (c .depth) 16 ≡ true → pushNumber c rect ≡ 0
   unfolding pushNumber
-  push-accepted rect e = rw (s .valid, and-left (rectOk rect) _ e, and-right (rectOk rect) (ltb (c .depth) 16) e)
+  push-accepted rect e = rw (sound-state s, and-left (rectOk rect) _ e, and-right (rectOk rect) (ltb (c .depth) 16) e)
 
   after-push : (rect : Rect) → rectOk rect && ltb (c .depth) 16 ≡ true → After b (Push rect) c (stateAfter (Push rect) c)
   unfolding stateAfter answer drawnAs pushed
@@ -51,6 +56,7 @@ module _ (b : List ℕ) (c : Canvas) (s : Sound c) where
         sound = push-clip-sound c rect s n;
         wide = refl;
         high = refl;
+        row = refl;
         depth = refl;
         clips = clips-pushed c b (outerOf rect) (omega (arith, s .sized, ltb-true (c .depth) 16 (and-right (rectOk rect) (ltb (c .depth) 16) e)));
       })
@@ -66,17 +72,18 @@ module _ (b : List ℕ) (c : Canvas) (s : Sound c) where
   after-pop : After b Pop c (stateAfter Pop c)
   unfolding stateAfter answer drawnAs
   after-pop =
-      rw (s .valid)
+      rw (sound-state s)
       (record {
         sound = pop-sound c s;
         wide = pop-kept (λ (d : Canvas). d .w) (width-kept c);
         high = pop-kept (λ (d : Canvas). d .h) (height-kept c);
+        row = pop-kept (λ (d : Canvas). d .pitch) (pitch-kept c);
         depth = pop-depth;
         clips = clips-popped c b;
       })
 
   after-same : (i : Item) → drawing.after (drawnAs b i) (clipsOf c) ≡ clipsOf c → savedAfter i (c .depth) ≡ c .depth → After b i c c
-  after-same i e d = record { sound = s; wide = refl; high = refl; depth = sym d; clips = sym e }
+  after-same i e d = record { sound = s; wide = refl; high = refl; row = refl; depth = sym d; clips = sym e }
 
   pub after-item : (i : Item) → itemOk b (c .depth) i ≡ true → After b i c (stateAfter i c)
   unfolding itemOk stateAfter drawnAs drawing.after

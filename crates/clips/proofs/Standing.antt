@@ -14,6 +14,7 @@ use lib.ListN.{getD-replicate}
 use Rattle.geom.specs.Box.{empty, noBox}
 use Rattle.geom.specs.declared.IRect.{IRect}
 use Rattle.geom.proofs.Int.{le-leZ}
+use Rattle.draw.specs.Frame.{pitchNumber}
 use Rattle.gfx.specs.State as state
 use Rattle.gfx.specs.State.{clipOk, inCanvas, rangeIn, placeOk, fourZeros, bothZero}
 use Rattle.gfx.specs.declared.Canvas.{Canvas}
@@ -37,23 +38,24 @@ side-in : (n : ℕ) → sideOk n ≡ true → state.sideOk (pos n) ≡ true
 unfolding state.sideOk
 side-in n e = e
 
-module _ (s : List ℕ) where
+module _ (s : List ℕ) (pitch : ℕ) where
   -- what is known of the state before the item k
   pub record Standing (k : ℕ) (c : Canvas) : Type 0 where
     pub sound : Sound c
     pub depth : c .depth ≡ depthBefore s k
     pub wide : c .w ≡ pos (widthOf s)
     pub high : c .h ≡ pos (heightOf s)
+    pub row : c .pitch ≡ pitch
 
   module _ (first : IRect) where
     abbrev start : Canvas
-    start = stateIn (pos (widthOf s)) (pos (heightOf s)) first
+    start = stateIn (pos (widthOf s)) (pos (heightOf s)) pitch first
 
     pub clips-first : clipsOf start ≡ only first
     unfolding stateIn savedOf
     clips-first = refl
 
-    module _ (e : sheetCheck s ≡ verdict 0 0) (inside : clipOk (pos (widthOf s)) (pos (heightOf s)) first ≡ true) where
+    module _ (e : sheetCheck s ≡ verdict 0 0) (rows : pitchNumber (widthOf s) pitch ≡ 0) (inside : clipOk (pos (widthOf s)) (pos (heightOf s)) first ≡ true) where
       place : (i : ℕ) → i < 16 → placeOk start i ≡ true
       unfolding stateIn placeOk fourZeros bothZero noBox
       place i l = rw (le-ltb i 0 (omega arith), getD-replicate 16 i noBox noBox l)
@@ -71,19 +73,22 @@ module _ (s : List ℕ) where
                   clip = inside;
                   places = places-all start 16 place;
                 });
+            rows = rows;
             sized = refl;
           }
 
       pub stands-first : Standing 0 start
       unfolding stateIn depthBefore
-      stands-first = record { sound = sound-first; depth = refl; wide = refl; high = refl }
+      stands-first = record { sound = sound-first; depth = refl; wide = refl; high = refl; row = refl }
 
-  -- the whole canvas is a clip inside it
+-- the whole canvas is a clip inside it
+module _ (s : List ℕ) where
   pub whole : clipOk (pos (widthOf s)) (pos (heightOf s)) (canvas (sheetOf s)) ≡ true
   unfolding clipOk inCanvas rangeIn canvas
   whole = rw (le-leZ (pos (widthOf s)) (pos (widthOf s)) (omega arith), le-leZ (pos (heightOf s)) (pos (heightOf s)) (omega arith)) (or-true (empty (canvas (sheetOf s))))
 
-  module _ (e : sheetCheck s ≡ verdict 0 0) (k : ℕ) (h : k < countOf s) (c : Canvas) (st : Standing k c) where
+module _ (s : List ℕ) (pitch : ℕ) where
+  module _ (e : sheetCheck s ≡ verdict 0 0) (k : ℕ) (h : k < countOf s) (c : Canvas) (st : Standing s pitch k c) where
     abbrev b : List ℕ
     b = bytesAt s k
 
@@ -101,13 +106,14 @@ module _ (s : List ℕ) where
     next-depth =
         rw (st .depth) (sym (saved-after b 0 (depthBefore s k)) ∙ ap (λ (n : ℕ). depthAfter n (depthBefore s k)) (kind-same s k item) ∙ sym (depth-next s k))
 
-    pub stands-next : Standing (k + 1) (stateAfter (itemOf b) c)
+    pub stands-next : Standing s pitch (k + 1) (stateAfter (itemOf b) c)
     stands-next =
         record {
           sound = next .sound;
           depth = next .depth ∙ next-depth;
           wide = next .wide ∙ st .wide;
           high = next .high ∙ st .high;
+          row = next .row ∙ st .row;
         }
 
     pub clips-next : clipsOf (stateAfter (itemOf b) c) ≡ after (itemIn b) (clipsOf c)

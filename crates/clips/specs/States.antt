@@ -17,8 +17,8 @@ use Rattle.items.specs.declared.Item.{Item}
 use Rattle.items.specs.declared.Item.the-variants.{Push, Pop, Fill, Stroke, Line, Poly, Shadow, Chain, Unknown}
 
 -- a canvas with a first clip and nothing saved
-unfoldable pub stateIn : ℤ → ℤ → IRect → Canvas
-stateIn w h first = record { w = w; h = h; clip = first; saved = replicate 16 noBox; depth = 0 }
+unfoldable pub stateIn : ℤ → ℤ → ℕ → IRect → Canvas
+stateIn w h pitch first = record { w = w; h = h; pitch = pitch; clip = first; saved = replicate 16 noBox; depth = 0 }
 
 -- the state that `push_clip` or `pop_clip` returns; a shape leaves it
 unfoldable pub stateAfter : Item → Canvas → Canvas

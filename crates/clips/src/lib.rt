@@ -1,4 +1,4 @@
-// The state of the canvas along the items of a sheet: its sides, the clip and the saved clips, before the first item and after each. No pixel is
+// The state of the canvas along the items of a sheet: its sides, its pitch, the clip and the saved clips, before the first item and after each. No pixel is
 // asked for.
 use geom::IRect;
 use gfx::Canvas;
@@ -16,14 +16,15 @@ ghost use Rattle.redraw.specs.Sheet.{canvas};
 ghost use Rattle.clips.specs.States.{stateIn, stateAfter, isShape};
 
 // A canvas with a first clip and nothing saved.
-pub fn state_in(w: i32, h: i32, first: IRect) -> Canvas
-    ensures { λ r. ⌜ r ≡ stateIn w h first ⌝ }
+pub fn state_in(w: i32, h: i32, pitch: usize, first: IRect) -> Canvas
+    ensures { λ r. ⌜ r ≡ stateIn w h pitch first ⌝ }
 {
     let zero = IRect::ZERO;
     let saved = [zero; 16];
     Canvas {
         w,
         h,
+        pitch,
         clip: first,
         saved,
         depth: 0,
@@ -45,11 +46,11 @@ pub fn canvas_of(s: &[u8]) -> IRect
     IRect::new(0, 0, side(s, 0), side(s, 2))
 }
 
-// The state in which a sheet is drawn with a first clip.
-pub fn first_state(s: &[u8], first: IRect) -> Canvas
-    ensures { λ r. ⌜ r ≡ stateIn (pos (widthOf (now (s .entry)))) (pos (heightOf (now (s .entry)))) first ⌝ }
+// The state in which a sheet is drawn with a first clip, in rows of `pitch` words.
+pub fn first_state(s: &[u8], pitch: usize, first: IRect) -> Canvas
+    ensures { λ r. ⌜ r ≡ stateIn (pos (widthOf (now (s .entry)))) (pos (heightOf (now (s .entry)))) pitch first ⌝ }
 {
-    state_in(side(s, 0), side(s, 2), first)
+    state_in(side(s, 0), side(s, 2), pitch, first)
 }
 
 // Whether the item that some bytes are is a shape: neither a push nor a pop.
