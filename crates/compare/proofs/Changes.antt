@@ -74,16 +74,16 @@ module _ (frame : IRect) where
         rw (shape-own a (itemOf a) (and-left _ (isShape (itemIn b)) e), shape-own b (itemOf b) (and-right (isShape (itemIn a)) _ e)) (pair a b c)
 
 -- a patch by a difference: refused by its number, or drawn in the box
-pub patch-by : (c : Change (List ℕ)) (s : Sheet (List ℕ)) (pxLen scratchLen : ℕ)
-    → patchBy format c s pxLen scratchLen
-    ≡ cond (eqb (changeNumber c) 0) (lent format s pxLen scratchLen (changeBox (canvas s) c)) (refuses (changeNumber c) 0)
+pub patch-by : (c : Change (List ℕ)) (s : Sheet (List ℕ)) (pitch pxLen scratchLen : ℕ)
+    → patchBy format c s pitch pxLen scratchLen
+    ≡ cond (eqb (changeNumber c) 0) (lent format s pitch pxLen scratchLen (changeBox (canvas s) c)) (refuses (changeNumber c) 0)
 unfolding patchBy tooMany changeNumber changeBox
-patch-by other s pxLen scratchLen = refl
-patch-by (shapes l) s pxLen scratchLen = go (few l) (hull (canvas s) (reaches (kind .reach) l))
+patch-by other s pitch pxLen scratchLen = refl
+patch-by (shapes l) s pitch pxLen scratchLen = go (few l) (hull (canvas s) (reaches (kind .reach) l))
   where
     go : (t : Bool) (box : IRect)
-        → cond t (lent format s pxLen scratchLen box) (refuses 14 0)
-        ≡ cond (eqb (cond t 0 14) 0) (lent format s pxLen scratchLen (cond t box noBox)) (refuses (cond t 0 14) 0)
+        → cond t (lent format s pitch pxLen scratchLen box) (refuses 14 0)
+        ≡ cond (eqb (cond t 0 14) 0) (lent format s pitch pxLen scratchLen (cond t box noBox)) (refuses (cond t 0 14) 0)
     go true box = refl
     go false box = refl
 

@@ -22,7 +22,8 @@ use Rattle.items.specs.Items.{readPaint, readItem, coordsFrom}
 use Rattle.items.specs.Format.{reachOf, needOf, drawnAs, itemsFrom, itemNeed, needs, sameBytes, sameBox, sameItem, reading, format}
 use Rattle.redraw.specs.declared.Answer.{Answer}
 use Rattle.compare.specs.Compare.{found, changeNumber}
-use Rattle.redraw.specs.Sheet.{Sheet, shapes, refuses, canvas, sameHeader, few, tooMany, withPair, bothShapes, change, reaches, lent, patchBy, patchOf, patching, refusal, answer}
+use Rattle.draw.specs.Frame.{pitchOk, pitchNumber, frameNumber}
+use Rattle.redraw.specs.Sheet.{Sheet, shapes, refuses, canvas, sameHeader, few, tooMany, withPair, bothShapes, change, reaches, lent, lentNumber, drawsUnless, patchBy, patchOf, patching, refusal, answer}
 
 -- a number as two bytes; -9, 0, 1, 2 and 9 as floats
 abbrev u16 : ℕ → List ℕ
@@ -75,9 +76,12 @@ sheet l = u16 4 ++ u16 1 ++ none ++ u16 (length l) ++ u16 0 ++ pairsOf l (12 + 4
 abbrev accepted : IRect → Answer
 accepted area = record { number = 0; item = 0; area = area }
 
--- what a patch answers, with px of so many words
+-- what a patch answers, in rows of `pitch` words, with px of so many words; and in rows that are as long as the canvas
+abbrev answeredIn : List (List ℕ) → List (List ℕ) → ℕ → ℕ → Answer
+answeredIn old new pitch px = answer (patching format (sheet old) (sheet new) pitch px 0)
+
 abbrev answered : List (List ℕ) → List (List ℕ) → ℕ → Answer
-answered old new px = answer (patching format (sheet old) (sheet new) px 0)
+answered old new px = answeredIn old new 4 px
 
 pub edges :
     -- no shape differs, one, two; px is too short
@@ -93,8 +97,15 @@ pub edges :
     × (answered (outline none ∷ fill two 0 ∷ []) (fill none 0 ∷ fill two 0 ∷ []) 4 ≡ accepted (boxOf (pos 0) (pos 0) (pos 1) (pos 1)))
     -- a push differs, beside a shape
     × (answered (fill none 0 ∷ push none ∷ []) (fill two 0 ∷ push one ∷ []) 4 ≡ refusal 10 0)
-unfolding copies pairsOf joined patching patchOf patchBy lent reading sheetCheck checks.itemsFrom numberAt depthAt headNumber headerOk pairsOk pairsFrom itemNumber savedOk floatsOk paintFloatsOk bytesOk paintBytesOk pointsOk lengthOk layoutAt allAt floatOk itemsFrom drawnAs readItem readPaint reachOf needOf itemNeed needs sameItem sameBytes sameBox sameHeader change bothShapes withPair few tooMany reaches canvas joinAll join around empty meet maxZ minZ noBox answer refusal fillReach strokeReach noArea outerOf floorOf ceilOf ofBits round add sub mul ofInt lt le eq ne neg toSigned toUnsigned
-edges = (refl, refl, refl, refl, refl, refl, refl, refl)
+    -- rows of 5, 4,096 and 4,097 words, and of one word fewer than the canvas has columns: 15 comes after 10 and before 8
+    × (answeredIn (fill none 0 ∷ []) (fill two 0 ∷ []) 5 5 ≡ accepted (boxOf (pos 0) (pos 0) (pos 3) (pos 1)))
+    × (answeredIn (fill none 0 ∷ []) (fill two 0 ∷ []) 5 4 ≡ refusal 8 0)
+    × (answeredIn (fill none 0 ∷ []) (fill two 0 ∷ []) 4096 4096 ≡ accepted (boxOf (pos 0) (pos 0) (pos 3) (pos 1)))
+    × (answeredIn (fill none 0 ∷ []) (fill two 0 ∷ []) 4097 4097 ≡ refusal 15 0)
+    × (answeredIn (fill none 0 ∷ []) (fill two 0 ∷ []) 3 4 ≡ refusal 15 0)
+    × (answeredIn (fill none 0 ∷ push none ∷ []) (fill two 0 ∷ push one ∷ []) 3 4 ≡ refusal 10 0)
+unfolding copies pairsOf joined patching patchOf patchBy lent lentNumber drawsUnless frameNumber pitchNumber pitchOk reading sheetCheck checks.itemsFrom numberAt depthAt headNumber headerOk pairsOk pairsFrom itemNumber savedOk floatsOk paintFloatsOk bytesOk paintBytesOk pointsOk lengthOk layoutAt allAt floatOk itemsFrom drawnAs readItem readPaint reachOf needOf itemNeed needs sameItem sameBytes sameBox sameHeader change bothShapes withPair few tooMany reaches canvas joinAll join around empty meet maxZ minZ noBox answer refusal fillReach strokeReach noArea outerOf floorOf ceilOf ofBits round add sub mul ofInt lt le eq ne neg toSigned toUnsigned
+edges = (refl, refl, refl, refl, refl, refl, refl, refl, refl, refl, refl, refl, refl, refl)
 
 -- n lines from (x, 0)
 abbrev many : ℕ → List ℕ → List (List ℕ)
@@ -110,10 +121,10 @@ pub limits :
 unfolding copies pairsOf joined change bothShapes withPair few itemsFrom drawnAs readItem readPaint sameItem sameBytes changeNumber
 limits = (refl, refl, refl, refl, refl)
 
--- 33 shapes are refused by 14 whatever px and scratch are lent: 14 comes before 8 and 9
-pub before-lengths : (l : List (List ℕ × List ℕ)) (s : Sheet (List ℕ)) (px words : ℕ) → length l ≡ 33 → patchBy format (shapes l) s px words ≡ refuses 14 0
+-- 33 shapes are refused by 14 whatever pitch, px and scratch are lent: 14 comes before 15, 8 and 9
+pub before-lengths : (l : List (List ℕ × List ℕ)) (s : Sheet (List ℕ)) (pitch px words : ℕ) → length l ≡ 33 → patchBy format (shapes l) s pitch px words ≡ refuses 14 0
 unfolding patchBy few tooMany
-before-lengths l s px words e = rw e
+before-lengths l s pitch px words e = rw e
 
 -- a chain of n points with width -2, so that a line reaches the box between its ends and no more
 abbrev chain : ℕ → List ℕ → List ℕ
@@ -140,5 +151,5 @@ pub chains :
     × (answered (start ∷ []) (fill two 0 ∷ []) 4 ≡ accepted (boxOf (pos 2) (pos 0) (pos 3) (pos 1)))
     -- a push for a chain
     × (answered (short ∷ []) (push one ∷ []) 4 ≡ refusal 10 0)
-unfolding copies pairsOf joined patching patchOf patchBy lent reading sheetCheck checks.itemsFrom numberAt depthAt headNumber headerOk pairsOk pairsFrom itemNumber savedOk floatsOk paintFloatsOk bytesOk paintBytesOk pointsOk lengthOk layoutAt allAt floatOk itemsFrom drawnAs readItem readPaint coordsFrom reachOf needOf itemNeed needs sameItem sameBytes sameBox sameHeader change bothShapes withPair few tooMany reaches canvas joinAll join around empty meet maxZ minZ noBox answer refusal linesFrom lineReach absOf fillReach noArea outerOf floorOf ceilOf ofBits round add sub mul ofInt lt le eq ne neg toSigned toUnsigned
+unfolding copies pairsOf joined patching patchOf patchBy lent lentNumber drawsUnless frameNumber pitchNumber pitchOk reading sheetCheck checks.itemsFrom numberAt depthAt headNumber headerOk pairsOk pairsFrom itemNumber savedOk floatsOk paintFloatsOk bytesOk paintBytesOk pointsOk lengthOk layoutAt allAt floatOk itemsFrom drawnAs readItem readPaint coordsFrom reachOf needOf itemNeed needs sameItem sameBytes sameBox sameHeader change bothShapes withPair few tooMany reaches canvas joinAll join around empty meet maxZ minZ noBox answer refusal linesFrom lineReach absOf fillReach noArea outerOf floorOf ceilOf ofBits round add sub mul ofInt lt le eq ne neg toSigned toUnsigned
 chains = (refl, refl, refl, refl, refl, refl, refl)

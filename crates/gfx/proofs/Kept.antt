@@ -1,6 +1,6 @@
 -- Pushing and popping a clip leave a state sound: valid, with its pitch in range and its 16 places. Assumes nothing.
 use mathlib.Core.Path.{_≡_, refl, sym, _∙_}
-use mathlib.Core.Bool.{true, cond, or-true, _&&_}
+use mathlib.Core.Bool.{true, cond, or-true}
 use mathlib.Core.Logic.{⊎-elim}
 use Prim.Native.Nat.{ℕ, _+_, _-_, _<_, _≤_}
 use native.Mathlib.Nat.{eq-or-lt-of-le}
@@ -10,7 +10,7 @@ use lib.Dec.{ltb, eqb}
 use lib.IntN.{ℤ, pos}
 use lib.ListN.{length, length-set, getD-replicate}
 use lib.Seq.{getD-set-same, getD-set-other}
-use Rattle.geom.proofs.Bools.{split, and-left, and-right}
+use Rattle.geom.proofs.Bools.{split}
 use Rattle.geom.proofs.Int.{le-leZ}
 use Rattle.geom.specs.declared.IRect.{IRect}
 use Rattle.geom.specs.Box.{boxOf, empty, noBox}

@@ -43,6 +43,10 @@ open-of c n e =
     let v = passed (validOf c) 11 _ e in
     record { valid = v .0; frame = frame-of (up (c .w)) (up (c .h)) (c .pitch) n (v .1) }
 
+pub open-number : {c : Canvas} {n : ℕ} → Open c n → pxNumber c n ≡ 0
+unfolding pxNumber
+open-number o = rw (o .valid, in-frame (o .frame))
+
 pub open-small : {c : Canvas} {n : ℕ} → Open c n → n ≤ 8388608
 open-small {c} o =
     let v = valid-of c (o .valid) in

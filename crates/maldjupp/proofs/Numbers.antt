@@ -7,10 +7,10 @@ use native.Mathlib.Omega.{arith}
 use borrow.Author.Tests.{ne-eqb}
 use lib.Dec.{leb, eqb}
 use lib.Ieee.{Float}
+use Rattle.geom.proofs.Refusals.{then-open}
 use Rattle.paints.specs.Paints.{paintOk}
 use Rattle.gfx.specs.declared.Canvas.{Canvas}
-use Rattle.gfx.specs.State.{validOf}
-use Rattle.gfx.specs.Calls.{unless, areaOf, shapeNumber}
+use Rattle.gfx.specs.Calls.{unless, andThen, pxNumber, shapeNumber}
 use Rattle.gfx.specs.Points.{pointsOk, coordsOk, pointsNumber}
 use Rattle.poly.specs.Poly.{polyNeed, polyNumber}
 use Rattle.maldjupp.specs.declared.brush.Brush.{Brush}
@@ -19,12 +19,10 @@ use Rattle.maldjupp.specs.Brushes.{paintOf, kindOk, brushNumber, kindNum
 module _ (c : Canvas) (n : ℕ) where
   pub kind-some : kindNumber c n ≡ 0 → ⊥
   unfolding kindNumber
-  kind-some e = go (validOf c) (eqb n (areaOf (c .w) (c .h))) e
+  kind-some e = five (then-open (pxNumber c n) 5 e .1)
     where
-      go : (v t : Bool) → unless v 12 (unless t 8 5) ≡ 0 → ⊥
-      go true true e = omega arith
-      go true false e = omega arith
-      go false t e = omega arith
+      five : _≡_ {A = ℕ} 5 0 → ⊥
+      five e = omega arith
 
   module _ (b : Brush) (ok : Bool) where
     pub kind-over : kindOk b ≡ false → kindNumber c n ≡ brushNumber c n b ok
@@ -38,13 +36,11 @@ module _ (c : Canvas) (n : ℕ) where
   module _ (pts : List Float) where
     pub points-kind-some : pointsKindNumber c n pts ≡ 0 → ⊥
     unfolding pointsKindNumber
-    points-kind-some e = go (validOf c) (eqb n (areaOf (c .w) (c .h))) (pointsOk pts) e
+    points-kind-some e = go (pointsOk pts) (then-open (pxNumber c n) _ e .1)
       where
-        go : (v t p : Bool) → unless v 12 (unless t 8 (unless p 13 5)) ≡ 0 → ⊥
-        go true true true e = omega arith
-        go true true false e = omega arith
-        go true false p e = omega arith
-        go false t p e = omega arith
+        go : (p : Bool) → unless p 13 5 ≡ 0 → ⊥
+        go true e = omega arith
+        go false e = omega arith
 
     module _ (b : Brush) (words : ℕ) where
       pub points-kind-over : kindOk b ≡ false → pointsKindNumber c n pts ≡ pointsBrushNumber c n pts b words
@@ -58,12 +54,11 @@ module _ (c : Canvas) (n : ℕ) where
       pub points-kind-fits : kindOk b ≡ true → polyNumber c n pts (paintOf b) words ≡ pointsBrushNumber c n pts b words
       unfolding polyNumber pointsNumber pointsBrushNumber
       points-kind-fits e =
-          rw e
-          (go (validOf c) (eqb n (areaOf (c .w) (c .h))) (pointsOk pts) (coordsOk pts && paintOk (paintOf b)) (unless (leb (polyNeed pts) words) 9 0))
+          rw e (go (eqb (pxNumber c n) 0) refl (pointsOk pts) (coordsOk pts && paintOk (paintOf b)) (unless (leb (polyNeed pts) words) 9 0))
         where
-          go : (v t p f : Bool) (rest : ℕ) → cond (eqb (unless v 12 (unless t 8 (unless p 13 (unless f 6 0)))) 0) rest (unless v 12 (unless t 8 (unless p 13 (unless f 6 0)))) ≡ unless v 12 (unless t 8 (unless p 13 (unless f 6 rest)))
-          go true true true true rest = refl
-          go true true true false rest = refl
-          go true true false f rest = refl
-          go true false p f rest = refl
-          go false t p f rest = refl
+          go : (t : Bool) → eqb (pxNumber c n) 0 ≡ t → (p f : Bool) (rest : ℕ)
+              → andThen (cond t (unless p 13 (unless f 6 0)) (pxNumber c n)) rest ≡ cond t (unless p 13 (unless f 6 rest)) (pxNumber c n)
+          go true z true true rest = refl
+          go true z true false rest = refl
+          go true z false f rest = refl
+          go false z p f rest = rw z

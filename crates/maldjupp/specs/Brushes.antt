@@ -3,10 +3,9 @@
 use mathlib.Core.Bool.{Bool, _&&_}
 use mathlib.Core.List.{List, [], _∷_}
 use Prim.Native.Nat.{ℕ}
-use lib.Dec.{leb, eqb}
+use lib.Dec.{leb}
 use lib.Ieee.{Float}
 use lib.ListN.{length}
-use Rattle.geom.specs.Int.{up}
 use Rattle.geom.specs.Plane.{ptOf}
 use Rattle.geom.specs.declared.Rect.{Rect}
 use Rattle.draw.specs.Draw.{drawn}
@@ -15,8 +14,7 @@ use Rattle.paints.specs.declared.Paint.the-variants.{Solid, VGrad, Linear, Radi
 use Rattle.paints.specs.Paints.{paintOk}
 use Rattle.gfx.specs.declared.Canvas.{Canvas}
 use Rattle.gfx.specs.declared.Counted.{Counted}
-use Rattle.gfx.specs.State.{validOf}
-use Rattle.gfx.specs.Calls.{unless, areaOf, ShapeCalled}
+use Rattle.gfx.specs.Calls.{unless, andThen, pxNumber, ShapeCalled}
 use Rattle.gfx.specs.Points.{pointsOk, coordsOk}
 use Rattle.fill.specs.Fill.{fillReach, fillInk}
 use Rattle.poly.specs.Poly.{polyNeed}
@@ -38,34 +36,29 @@ kindOk b = leb (b .kind) 3
 
 -- ---- numbers
 
--- a fill on n lent pixels, by whether the floats given are finite and within 8,192 of 0: 12, 8, 5, then 6
+-- a fill on n lent words, by whether the floats given are finite and within 8,192 of 0: 12, 15, 8, 5, then 6
 unfoldable pub brushNumber : Canvas → ℕ → Brush → Bool → ℕ
-brushNumber c n b floatsOk =
-    unless (validOf c) 12
-    (unless (eqb n (areaOf (c .w) (c .h))) 8
-    (unless (kindOk b) 5
-    (unless floatsOk 6 0)))
+brushNumber c n b floatsOk = andThen (pxNumber c n) (unless (kindOk b) 5 (unless floatsOk 6 0))
 
--- a polygon with so many words of scratch: 12, 8, 13, 5, 6, then 9
+-- a polygon with so many words of scratch: 12, 15, 8, 13, 5, 6, then 9
 unfoldable pub pointsBrushNumber : Canvas → ℕ → List Float → Brush → ℕ → ℕ
 pointsBrushNumber c n pts b words =
-    unless (validOf c) 12
-    (unless (eqb n (areaOf (c .w) (c .h))) 8
+    andThen (pxNumber c n)
     (unless (pointsOk pts) 13
     (unless (kindOk b) 5
     (unless (coordsOk pts && paintOk (paintOf b)) 6
-    (unless (leb (polyNeed pts) words) 9 0)))))
+    (unless (leb (polyNeed pts) words) 9 0))))
 
 -- the two where the kind is over 3
 unfoldable pub kindNumber : Canvas → ℕ → ℕ
-kindNumber c n = unless (validOf c) 12 (unless (eqb n (areaOf (c .w) (c .h))) 8 5)
+kindNumber c n = andThen (pxNumber c n) 5
 
 unfoldable pub pointsKindNumber : Canvas → ℕ → List Float → ℕ
-pointsKindNumber c n pts = unless (validOf c) 12 (unless (eqb n (areaOf (c .w) (c .h))) 8 (unless (pointsOk pts) 13 5))
+pointsKindNumber c n pts = andThen (pxNumber c n) (unless (pointsOk pts) 13 5)
 
 -- ---- the fills
 
 -- what a fill with a brush promises: but for its number, what the fill with its paint does
 abbrev pub Brushed : Canvas → Brush → Bool → Rect → Float → List ℕ → Counted → List ℕ → Type 0
 Brushed canvas b ok rect r px =
-    ShapeCalled (brushNumber canvas (length px) b ok) canvas px (drawn (up (canvas .w)) (canvas .clip) (fillReach rect) (fillInk rect r (paintOf b)) px)
+    ShapeCalled (brushNumber canvas (length px) b ok) canvas px (drawn (canvas .pitch) (canvas .clip) (fillReach rect) (fillInk rect r (paintOf b)) px)

@@ -51,7 +51,7 @@ impl Brush {
     }
 }
 
-// The number of a call on n lent pixels whose brush has a kind over 3.
+// The number of a call on n lent words whose brush has a kind over 3.
 pub fn kind_number(canvas: Canvas, n: usize) -> u32
     ensures { λ r. ⌜ r ≡ kindNumber canvas n ⌝ }
 {

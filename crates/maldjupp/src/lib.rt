@@ -27,12 +27,17 @@ pub extern "C" fn maldjupp_measure(sheet: &[u8]) -> Room
     measure(sheet)
 }
 
-// Paints a sheet: every pixel the ground, then its items in their order.
+// Paints a sheet: every pixel the ground, then its items in their order. The pixel in column x and row y is the word y × pitch + x of px.
 #[no_mangle]
-pub extern "C" fn maldjupp_paint(sheet: &[u8], px: &mut [u32], scratch: &mut [f32]) -> Reply
-    ensures { λ r. ⌜ Painted zeroWord format (now (sheet .entry)) (now (px .entry)) (now (scratch .entry)) r (now (px .exit)) (now (scratch .exit)) ⌝ }
+pub extern "C" fn maldjupp_paint(
+    sheet: &[u8],
+    pitch: usize,
+    px: &mut [u32],
+    scratch: &mut [f32],
+) -> Reply
+    ensures { λ r. ⌜ Painted zeroWord format (now (sheet .entry)) pitch (now (px .entry)) (now (scratch .entry)) r (now (px .exit)) (now (scratch .exit)) ⌝ }
 {
-    paint(sheet, px, scratch)
+    paint(sheet, pitch, px, scratch)
 }
 
 // Patches px, which shows the old sheet, to the new one.
@@ -40,12 +45,13 @@ pub extern "C" fn maldjupp_paint(sheet: &[u8], px: &mut [u32], scratch: &mut [f3
 pub extern "C" fn maldjupp_patch(
     old: &[u8],
     new: &[u8],
+    pitch: usize,
     px: &mut [u32],
     scratch: &mut [f32],
 ) -> Reply
-    ensures { λ r. ⌜ Patched zeroWord format (now (old .entry)) (now (new .entry)) (now (px .entry)) (now (scratch .entry)) r (now (px .exit)) (now (scratch .exit)) ⌝ }
+    ensures { λ r. ⌜ Patched zeroWord format (now (old .entry)) (now (new .entry)) pitch (now (px .entry)) (now (scratch .entry)) r (now (px .exit)) (now (scratch .exit)) ⌝ }
 {
-    patch(old, new, px, scratch)
+    patch(old, new, pitch, px, scratch)
 }
 
 // Writes the small clip order of a number, from 0: 23 for a number of 1,093 or more, 19 for a buffer in which it does not fit.

@@ -18,7 +18,6 @@ use stroke::ring;
 use stroke::stroke_rrect;
 ghost use lib.ListN.{length};
 ghost use Rattle.mathf.specs.F32.{f0};
-ghost use Rattle.geom.specs.Int.{up};
 ghost use Rattle.geom.specs.Plane.{floatOk};
 ghost use Rattle.draw.specs.Draw.{drawn};
 ghost use Rattle.gfx.specs.Calls.{CalledCounted, ShapeCalled, shapeNumber};
@@ -108,7 +107,7 @@ pub extern "C" fn maldjupp_stroke_rrect(
     width: f32,
     color: Color,
 ) -> Counted
-    ensures { λ d. ⌜ ShapeCalled (shapeNumber canvas (length (now (px .entry))) (strokeOk rect r width)) canvas (now (px .entry)) (drawn (up (canvas .w)) (canvas .clip) (strokeReach rect color) (strokeInk rect r width color) (now (px .entry))) d (now (px .exit)) ⌝ }
+    ensures { λ d. ⌜ ShapeCalled (shapeNumber canvas (length (now (px .entry))) (strokeOk rect r width)) canvas (now (px .entry)) (drawn (canvas .pitch) (canvas .clip) (strokeReach rect color) (strokeInk rect r width color) (now (px .entry))) d (now (px .exit)) ⌝ }
 {
     stroke_rrect(canvas, px, rect, r, width, color)
 }
@@ -124,7 +123,7 @@ pub extern "C" fn maldjupp_ring(
     width: f32,
     color: Color,
 ) -> Counted
-    ensures { λ d. ⌜ ShapeCalled (shapeNumber canvas (length (now (px .entry))) (ringOk cx cy r width)) canvas (now (px .entry)) (drawn (up (canvas .w)) (canvas .clip) (strokeReach (circleRect cx cy r) color) (strokeInk (circleRect cx cy r) r width color) (now (px .entry))) d (now (px .exit)) ⌝ }
+    ensures { λ d. ⌜ ShapeCalled (shapeNumber canvas (length (now (px .entry))) (ringOk cx cy r width)) canvas (now (px .entry)) (drawn (canvas .pitch) (canvas .clip) (strokeReach (circleRect cx cy r) color) (strokeInk (circleRect cx cy r) r width color) (now (px .entry))) d (now (px .exit)) ⌝ }
 {
     ring(canvas, px, cx, cy, r, width, color)
 }
@@ -139,7 +138,7 @@ pub extern "C" fn maldjupp_line(
     width: f32,
     color: Color,
 ) -> Counted
-    ensures { λ r. ⌜ ShapeCalled (shapeNumber canvas (length (now (px .entry))) (lineOk a b width)) canvas (now (px .entry)) (drawn (up (canvas .w)) (canvas .clip) (lineReach a b width) (lineInk a b width color) (now (px .entry))) r (now (px .exit)) ⌝ }
+    ensures { λ r. ⌜ ShapeCalled (shapeNumber canvas (length (now (px .entry))) (lineOk a b width)) canvas (now (px .entry)) (drawn (canvas .pitch) (canvas .clip) (lineReach a b width) (lineInk a b width color) (now (px .entry))) r (now (px .exit)) ⌝ }
 {
     line(canvas, px, a, b, width, color)
 }
@@ -153,7 +152,7 @@ pub extern "C" fn maldjupp_polyline(
     width: f32,
     color: Color,
 ) -> Counted
-    ensures { λ r. ⌜ CalledCounted (pointsNumber canvas (length (now (px .entry))) (now (pts .entry)) (floatOk width)) canvas (now (px .entry)) (polylined (up (canvas .w)) (canvas .clip) (now (pts .entry)) width color (now (px .entry))) (polylineSteps (up (canvas .w)) (canvas .clip) (now (pts .entry)) width color (now (px .entry))) r (now (px .exit)) ⌝ }
+    ensures { λ r. ⌜ CalledCounted (pointsNumber canvas (length (now (px .entry))) (now (pts .entry)) (floatOk width)) canvas (now (px .entry)) (polylined (canvas .pitch) (canvas .clip) (now (pts .entry)) width color (now (px .entry))) (polylineSteps (canvas .pitch) (canvas .clip) (now (pts .entry)) width color (now (px .entry))) r (now (px .exit)) ⌝ }
 {
     polyline(canvas, px, pts, width, color)
 }
@@ -191,7 +190,7 @@ pub extern "C" fn maldjupp_shadow_rrect(
     color: Color,
     skip: bool,
 ) -> Counted
-    ensures { λ d. ⌜ ShapeCalled (shapeNumber canvas (length (now (px .entry))) (shadowOk rect r blur)) canvas (now (px .entry)) (drawn (up (canvas .w)) (canvas .clip) (shadowReach rect blur color) (shadowInk rect r blur color skip) (now (px .entry))) d (now (px .exit)) ⌝ }
+    ensures { λ d. ⌜ ShapeCalled (shapeNumber canvas (length (now (px .entry))) (shadowOk rect r blur)) canvas (now (px .entry)) (drawn (canvas .pitch) (canvas .clip) (shadowReach rect blur color) (shadowInk rect r blur color skip) (now (px .entry))) d (now (px .exit)) ⌝ }
 {
     shadow_rrect(canvas, px, rect, r, blur, color, skip)
 }

@@ -11,11 +11,16 @@ use Rattle.geom.specs.declared.IRect.{IRect}
 use Rattle.draw.specs.Draw as Draw
 use Rattle.draw.specs.Areas.{inArea, clipTo, AreaFits}
 use Rattle.draw.proofs.Clips.{in-clip}
-use Rattle.gfx.specs.Calls.{areaOf}
+use Rattle.draw.specs.Frame.{pitchNumber}
+use Rattle.draw.proofs.Frame.{Pitch, pitch-of, in-pitch}
+use Rattle.geom.proofs.Bools.{and-right}
+use borrow.Author.Tests.{leb-true}
+use lib.Dec.{leb}
 use Rattle.gfx.specs.declared.Canvas.{Canvas}
 use Rattle.gfx.proofs.Fits.{canvas-fits}
 use Rattle.gfx.proofs.Valid.{side-of, valid-of}
-use Rattle.sheet.specs.Check.{widthOf, heightOf, countOf, bytesAt, verdict, sheetCheck}
+use Rattle.sheet.specs.Check.{widthOf, heightOf, countOf, bytesAt, sideOk, verdict, sheetCheck}
+use Rattle.sheet.proofs.Accepted.{accepted}
 use Rattle.items.specs.Items.{itemOf}
 use Rattle.items.specs.Format.{reachOf, needOf, kind, format, itemIn, itemsFrom, itemNeed, needs, sheetOf}
 use Rattle.redraw.specs.Drawing as drawing
@@ -33,21 +38,24 @@ use Rattle.measure.specs.Walked.{Read, Small, cellsOf, deepestOf, pixels
 
 module _ (s : List ℕ) where
   -- what the clip lets through lies in the canvas
-  module _ (k : ℕ) (c : Canvas) (st : Standing s k c) (reach : IRect) where
-    fits : AreaFits (up (c .w)) (clipTo reach (c .clip)) (areaOf (c .w) (c .h))
-    fits = canvas-fits c (areaOf (c .w) (c .h)) reach (record { valid = st .sound .valid; count = refl })
+  module _ (k : ℕ) (c : Canvas) (st : Standing s (widthOf s) k c) (reach : IRect) where
+    rows : Pitch (up (c .w)) (c .pitch)
+    rows = pitch-of (up (c .w)) (c .pitch) (st .sound .rows)
+
+    fits : AreaFits (c .pitch) (clipTo reach (c .clip)) (c .pitch * up (c .h))
+    fits = canvas-fits c _ reach (record { valid = st .sound .valid; frame = record { rows = rows; long = refl } })
 
     pub small : Small (clipTo reach (c .clip))
     small = record { across = fits .across; wide = fits .wide; down = fits .down; high = fits .high }
 
     right : clipTo reach (c .clip) .x1 ≤ widthOf s
-    right = rw (st .wide) at (fits .right)
+    right = rw (st .row) at (fits .right)
 
     bottom : clipTo reach (c .clip) .y1 ≤ heightOf s
     bottom =
-        let low = side-of (c .w) (valid-of c (st .sound .valid) .side-w) .low in
-        let b : clipTo reach (c .clip) .y1 * up (c .w) ≤ up (c .w) * up (c .h) = fits .bottom in
-        rw (st .high) at (le-of-mul-le-mul-right (rw (mul-comm (up (c .w)) (up (c .h))) at b) low)
+        let low : 0 < c .pitch = omega (arith, side-of (c .w) (valid-of c (st .sound .valid) .side-w) .low, rows .room) in
+        let b : clipTo reach (c .clip) .y1 * c .pitch ≤ c .pitch * up (c .h) = fits .bottom in
+        rw (st .high) at (le-of-mul-le-mul-right (rw (mul-comm (c .pitch) (up (c .h))) at b) low)
 
     pub met-cells : (a : List ℕ) → kind .reach a ≡ reach
         → met kind (widthOf s) (heightOf s) (record { under = c .clip; drawn = a }) ≡ cellsOf (clipTo reach (c .clip))
@@ -64,7 +72,7 @@ module _ (s : List ℕ) where
             meets-is x y = rw q
 
   -- what a shape adds, and that a push or a pop adds nothing
-  pub shape-cells : (k : ℕ) (c : Canvas) → Standing s k c → (b : List ℕ) → isShape (itemIn b) ≡ true
+  pub shape-cells : (k : ℕ) (c : Canvas) → Standing s (widthOf s) k c → (b : List ℕ) → isShape (itemIn b) ≡ true
       → metOf kind (widthOf s) (heightOf s) (itemIn b) (clipsOf c) ≡ cellsOf (clipTo (reachOf b (itemOf b)) (c .clip))
   unfolding metOf
   shape-cells k c st b e = rw (shape-own b (itemOf b) e) (met-cells k c st _ b refl)
@@ -90,7 +98,7 @@ module _ (s : List ℕ) where
   -- before the item k: what was taken so far, with what the items from k on take, is what all of them take
   pub record Walking (n : ℕ) (c : Canvas) (words most pixels k : ℕ) : Type 0 where
     pub within : k ≤ n
-    pub stands : Standing s k c
+    pub stands : Standing s (widthOf s) k c
     pub need : max words (needs (itemsFrom s (n - k) k)) ≡ needs (sheetOf s .items)
     pub deep : max most (deepest (itemsFrom s (n - k) k) (clipsOf c)) ≡ deepestOf s
     pub seen : c .depth ≤ most
@@ -98,16 +106,23 @@ module _ (s : List ℕ) where
     pub low : pixels ≤ k * 4194304
 
   abbrev first : Canvas
-  first = stateIn (pos (widthOf s)) (pos (heightOf s)) (canvas (sheetOf s))
+  first = stateIn (pos (widthOf s)) (pos (heightOf s)) (widthOf s) (canvas (sheetOf s))
+
+  -- the width is a pitch that is in its range
+  own-rows : Read s → pitchNumber (widthOf s) (widthOf s) ≡ 0
+  unfolding sideOk
+  own-rows e =
+      let w = leb-true (widthOf s) 2048 (and-right (leb 1 (widthOf s)) (leb (widthOf s) 2048) (accepted s e .width)) in
+      in-pitch (record { room = omega arith; most = omega (arith, w) })
 
   pub walking-first : Read s → (n : ℕ) → n ≡ countOf s → Walking n first 0 0 0 0
   unfolding stateIn
   walking-first e n q =
       let z : n - 0 ≡ n = omega arith in
-      let clips = clips-first s (canvas (sheetOf s)) in
+      let clips = clips-first s (widthOf s) (canvas (sheetOf s)) in
       record {
         within = omega arith;
-        stands = stands-first s (canvas (sheetOf s)) e (whole s);
+        stands = stands-first s (widthOf s) (canvas (sheetOf s)) e (own-rows e) (whole s);
         need = rw (z, q) (omega arith);
         deep = rw (z, q, clips) (omega arith);
         seen = omega arith;
@@ -131,16 +146,16 @@ module _ (s : List ℕ) where
         let k′ : k < countOf s = omega (arith, q) in
         let rest = itemsFrom s (n - (k + 1)) (k + 1) in
         let v = rw (u, sym r) at (w .need) in
-        let d = rw (u, saved-length (c .saved) (c .depth), sym (clips-next s e k k′ c (w .stands))) at (w .deep) in
+        let d = rw (u, saved-length (c .saved) (c .depth), sym (clips-next s (widthOf s) e k k′ c (w .stands))) at (w .deep) in
         let now = rw (saved-length (next .saved) (next .depth)) at (deepest-least rest (clipsOf next)) in
         let t = rw (u, met-turn kind (widthOf s) (heightOf s) (itemIn b) rest (clipsOf c), m) at (w .cells) in
         record {
           within = omega arith;
-          stands = stands-next s e k k′ c (w .stands);
+          stands = stands-next s (widthOf s) e k k′ c (w .stands);
           need = omega (arith, v);
           deep = omega (arith, d, now, w .seen);
           seen = omega arith;
-          cells = rw (clips-next s e k k′ c (w .stands)) (omega (arith, t));
+          cells = rw (clips-next s (widthOf s) e k k′ c (w .stands)) (omega (arith, t));
           low = omega (arith, w .low, l);
         }
 

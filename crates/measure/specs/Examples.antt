@@ -20,9 +20,10 @@ use Rattle.sheet.specs.Check.{headerOk, pairsFrom, pairsOk, headNumber, numberA
 use Rattle.encode.specs.Encode.{pairs, joined, encoded}
 use Rattle.items.specs.Items.{readPaint, readItem, coordsFrom}
 use Rattle.items.specs.Format.{reachOf, needOf, drawnAs, itemsFrom, itemNeed, needs, reading, format, sheetOf}
+use Rattle.draw.specs.Frame.{pitchOk, pitchNumber, frameNumber}
 use Rattle.redraw.specs.declared.Room.{Room}
 use Rattle.redraw.specs.Drawing.{popped, after, withStep, steps, meets}
-use Rattle.redraw.specs.Sheet.{refuses, draws, canvas, lent, paintOf, painting}
+use Rattle.redraw.specs.Sheet.{refuses, draws, canvas, lent, lentNumber, drawsUnless, paintOf, painting}
 use Rattle.redraw.specs.Sums.{sumTo}
 use Rattle.redraw.specs.Measure.{deepest, met, metAll, room, roomOf, measuring}
 
@@ -80,7 +81,10 @@ rooms = (refl, refl, refl, refl, refl, refl, refl)
 
 -- with the words told the polygon is painted, with one fewer not
 pub lends :
-    (painting format (sheet (polygon ∷ [])) 8 26 ≡ draws (sheetOf (sheet (polygon ∷ []))) (canvas (sheetOf (sheet (polygon ∷ [])))))
-    × (painting format (sheet (polygon ∷ [])) 8 25 ≡ refuses 9 0)
-unfolding pairs joined encoded painting paintOf lent reading sheetCheck checks.itemsFrom numberAt depthAt headNumber headerOk pairsOk pairsFrom itemNumber savedOk floatsOk paintFloatsOk bytesOk paintBytesOk kinds.pointsOk lengthOk layoutAt allAt floatOk itemsFrom drawnAs readItem readPaint coordsFrom needOf itemNeed needs canvas needIn polyOk pointsOk coordsOk polyNeed painted polyBox spanOf originOf extentOf floorOf ceilOf ofBits round add sub mul ofInt lt le eq ne neg toSigned toUnsigned
-lends = (refl, refl)
+    (painting format (sheet (polygon ∷ [])) 4 8 26 ≡ draws (sheetOf (sheet (polygon ∷ []))) (canvas (sheetOf (sheet (polygon ∷ [])))))
+    × (painting format (sheet (polygon ∷ [])) 4 8 25 ≡ refuses 9 0)
+    -- and in longer rows
+    × (painting format (sheet (polygon ∷ [])) 9 18 26 ≡ draws (sheetOf (sheet (polygon ∷ []))) (canvas (sheetOf (sheet (polygon ∷ [])))))
+    × (painting format (sheet (polygon ∷ [])) 9 18 25 ≡ refuses 9 0)
+unfolding pairs joined encoded painting paintOf lent lentNumber drawsUnless frameNumber pitchNumber pitchOk reading sheetCheck checks.itemsFrom numberAt depthAt headNumber headerOk pairsOk pairsFrom itemNumber savedOk floatsOk paintFloatsOk bytesOk paintBytesOk kinds.pointsOk lengthOk layoutAt allAt floatOk itemsFrom drawnAs readItem readPaint coordsFrom needOf itemNeed needs canvas needIn polyOk pointsOk coordsOk polyNeed painted polyBox spanOf originOf extentOf floorOf ceilOf ofBits round add sub mul ofInt lt le eq ne neg toSigned toUnsigned
+lends = (refl, refl, refl, refl)

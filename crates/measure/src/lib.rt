@@ -67,7 +67,7 @@ fn walk(s: &[u8]) -> Tally
 {
     let n = u16_at(s, 8);
     let whole = canvas_of(s);
-    let mut canvas = first_state(s, whole);
+    let mut canvas = first_state(s, u16_at(s, 0), whole);
     let mut words = 0;
     let mut most = 0;
     let mut pixels: u64 = 0;

@@ -13,11 +13,12 @@ use Rattle.geom.proofs.Bools.{split}
 use Rattle.sheet.specs.Bytes.{allAt}
 use Rattle.sheet.specs.Kinds.{kindAt, depthAfter, layoutAt, lengthOk, pointsOk, paintBytesOk, bytesOk, paintFloatsOk, floatsOk, savedOk, itemNumber}
 use Rattle.sheet.specs.Check.{countOf, headerOk, verdict, sheetCheck}
-use Rattle.redraw.specs.Sheet.{painting, accepted}
+use Rattle.draw.specs.Frame.{pitchOk, pitchNumber, frameNumber}
+use Rattle.redraw.specs.Sheet.{lentNumber, painting, accepted}
 use Rattle.items.specs.Items.{readItem, readPaint}
 use Rattle.items.specs.Format.{drawnAs, needOf, itemIn, itemNeed, needs, itemsFrom, format}
-use Rattle.paint.specs.Paint.{needIn, lentNumber}
-use Rattle.paint.proofs.Painting.{paint-accepts}
+use Rattle.paint.specs.Paint.{needIn}
+use Rattle.redraw.proofs.Rules.{paint-draws}
 use Rattle.encode.specs.Encode.{encoded}
 use Rattle.encode.proofs.Laid.{total, Sound, Laid, laid-bytes, laid-next, encoded-length, encoded-count, encoded-laid, encoded-check}
 use Rattle.orders.specs.Orders.{push, pop, fill, item, head, asSheet}
@@ -100,10 +101,11 @@ module _ (o : List ℕ) (h : length o ≤ 6) where
       let count = encoded-count head (map item o) refl few-items ∙ length-map o item in
       rw count (needs-none (asSheet o) short o 0 _ _ (encoded-laid head (map item o) refl short))
 
-  lent-enough : (words : ℕ) → lentNumber (asSheet o) 16 words ≡ 0
-  unfolding lentNumber encoded
-  lent-enough words = rw (no-need, le-leb 0 words (omega arith))
+  lent-enough : (pitch words : ℕ) → pitchOk 4 pitch ≡ true → lentNumber format (sheetOf (asSheet o)) pitch (pitch * 4) words ≡ 0
+  unfolding lentNumber frameNumber pitchNumber encoded
+  lent-enough pitch words p = rw (p, eq-eqb (pitch * 4) (pitch * 4) refl, no-need, le-leb 0 words (omega arith))
 
-  pub sheet-painted : (words : ℕ) → accepted (painting format (asSheet o) 16 words) ≡ true
+  pub sheet-painted : (pitch words : ℕ) → pitchOk 4 pitch ≡ true → accepted (painting format (asSheet o) pitch (pitch * 4) words) ≡ true
   unfolding accepted
-  sheet-painted words = ap accepted (paint-accepts (asSheet o) sheet-checked 16 words (lent-enough words))
+  sheet-painted pitch words p =
+      ap accepted (paint-draws format (asSheet o) pitch _ words (sheetOf (asSheet o)) (reads-accepted (asSheet o) sheet-checked) (lent-enough pitch words p))

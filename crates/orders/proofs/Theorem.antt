@@ -7,6 +7,7 @@ use native.Mathlib.Omega.{arith}
 use lib.ListN.{length}
 use Rattle.sheet.specs.Kinds.{kindAt}
 use Rattle.sheet.specs.Check.{countOf, bytesAt, verdict, sheetCheck}
+use Rattle.draw.specs.Frame.{pitchOk}
 use Rattle.redraw.specs.Sheet.{painting, accepted}
 use Rattle.items.specs.Format.{format}
 use Rattle.encode.proofs.Laid.{Laid, laid-bytes, laid-next, encoded-count, encoded-laid}
@@ -94,8 +95,8 @@ ordered j k h l = rw (order-is j (omega arith), order-is k l) (rising 6 j k h (s
 checked : (k : ℕ) → k < 1093 → sheetCheck (orderSheet k) ≡ verdict 0 0
 checked k h = rw (sheet-is k h) (sheet-checked (kindsIn 6 k) (kinds-few 6 k))
 
-painted : (k words : ℕ) → k < 1093 → accepted (painting format (orderSheet k) 16 words) ≡ true
-painted k words h = rw (sheet-is k h) (sheet-painted (kindsIn 6 k) (kinds-few 6 k) words)
+painted : (k pitch words : ℕ) → k < 1093 → pitchOk 4 pitch ≡ true → accepted (painting format (orderSheet k) pitch (pitch * 4) words) ≡ true
+painted k pitch words h p = rw (sheet-is k h) (sheet-painted (kindsIn 6 k) (kinds-few 6 k) pitch words p)
 
 pub every : Every
 every = record { count = counted; only = only; all = all; once = once; ordered = ordered; checked = checked; painted = painted }

@@ -1,10 +1,11 @@
 -- What is claimed of all the sheets together (request 2026-14). Proved in proofs/Theorem.
-use Prim.Native.Nat.{ℕ, _≤_, _<_}
+use Prim.Native.Nat.{ℕ, _*_, _≤_, _<_}
 use mathlib.Core.Bool.{true}
 use mathlib.Core.List.{List, [], _∷_}
 use mathlib.Core.Logic.{_⊎_}
 use mathlib.Core.Path.{_≡_}
 use lib.ListN.{length}
+use Rattle.draw.specs.Frame.{pitchOk}
 use Rattle.sheet.specs.Check.{verdict, sheetCheck}
 use Rattle.redraw.specs.Sheet.{painting, accepted}
 use Rattle.items.specs.Format.{format}
@@ -40,6 +41,6 @@ pub record Every : Type 0 where
   pub once : (j k : ℕ) → j < 1093 → k < 1093 → orderSheet j ≡ orderSheet k → j ≡ k
   -- "Sheets of fewer items come first, and among those of equal count push stands before pop before fill, the first item weighing most"
   pub ordered : (j k : ℕ) → j < k → k < 1093 → Before (orderAt j) (orderAt k)
-  -- "each is accepted by painting": it passes every check of a sheet, and is painted on 16 pixels whatever the scratch, also with none
+  -- "each is accepted by painting": it passes every check of a sheet, and is painted in 4 rows of any pitch whatever the scratch, also with none
   pub checked : (k : ℕ) → k < 1093 → sheetCheck (orderSheet k) ≡ verdict 0 0
-  pub painted : (k words : ℕ) → k < 1093 → accepted (painting format (orderSheet k) 16 words) ≡ true
+  pub painted : (k pitch words : ℕ) → k < 1093 → pitchOk 4 pitch ≡ true → accepted (painting format (orderSheet k) pitch (pitch * 4) words) ≡ true

@@ -1,11 +1,11 @@
 -- The greatest need of a sheet's items, one after the other. Assumes nothing.
 use Prim.Native.Nat.{ℕ, suc, _+_, _-_, _<_, _≤_, max}
-use mathlib.Core.Path.{_≡_, refl, _∙_}
+use mathlib.Core.Path.{_≡_, refl}
 use mathlib.Core.List.{List}
 use native.Mathlib.Omega.{arith}
 use Rattle.sheet.specs.Check.{bytesAt}
 use Rattle.items.specs.Items.{itemOf}
-use Rattle.items.specs.Format.{needOf, itemIn, itemNeed, needs, itemsFrom}
+use Rattle.items.specs.Format.{needOf, needs, itemsFrom}
 use Rattle.render.proofs.Drawing.{need-in}
 
 -- one item more

@@ -1,6 +1,7 @@
 // Painting a sheet, and what patching shares with it.
 use clips::canvas_of;
 use clips::first_state;
+use draw::frame_number;
 use draw::larger;
 use fill::fill_ground;
 use geom::IRect;
@@ -15,9 +16,10 @@ use sheet::u16_at;
 ghost use mathlib.Core.Path.{_≡_};
 ghost use Rattle.sheet.specs.Check.{bytesAt};
 ghost use Rattle.items.specs.Items.{itemOf};
-ghost use Rattle.items.specs.Format.{needOf, format, zeroWord};
+ghost use Rattle.items.specs.Format.{needOf, sheetOf, format, zeroWord};
+ghost use Rattle.redraw.specs.Sheet.{lentNumber};
 ghost use Rattle.redraw.specs.Calls.{refusedBy, Painted};
-ghost use Rattle.paint.specs.Paint.{needIn, lentNumber, DrewSheet};
+ghost use Rattle.paint.specs.Paint.{needIn, DrewSheet};
 
 // The reply of a refused call: its box is four zeros, and it altered nothing.
 pub fn refusal(number: u32, item: u32) -> Reply
@@ -54,12 +56,13 @@ pub fn sheet_need(s: &[u8]) -> usize
     most
 }
 
-// The number that is given where n pixels and so many scratch words are lent: 8, then 9, or 0.
-pub fn lent_number(s: &[u8], n: usize, words: usize) -> u32
-    ensures { λ r. ⌜ r ≡ lentNumber (now (s .entry)) n words ⌝ }
+// The number that is given where n words of px, in rows of `pitch`, and so many scratch words are lent: 15, 8, then 9, or 0.
+pub fn lent_number(s: &[u8], pitch: usize, n: usize, words: usize) -> u32
+    ensures { λ r. ⌜ r ≡ lentNumber format (sheetOf (now (s .entry))) pitch n words ⌝ }
 {
-    if n != u16_at(s, 0) * u16_at(s, 2) {
-        return 8;
+    let number = frame_number(u16_at(s, 0), u16_at(s, 2), pitch, n);
+    if number != 0 {
+        return number;
     }
     if words < sheet_need(s) {
         return 9;
@@ -68,10 +71,16 @@ pub fn lent_number(s: &[u8], n: usize, words: usize) -> u32
 }
 
 // Sets an area to the ground, and draws the sheet with the area as first clip: the reply of an accepted call.
-pub fn draw_in(s: &[u8], area: IRect, px: &mut [u32], scratch: &mut [f32]) -> Reply
-    ensures { λ r. ⌜ DrewSheet (now (s .entry)) area (now (px .entry)) (now (scratch .entry)) r (now (px .exit)) (now (scratch .exit)) ⌝ }
+pub fn draw_in(
+    s: &[u8],
+    pitch: usize,
+    area: IRect,
+    px: &mut [u32],
+    scratch: &mut [f32],
+) -> Reply
+    ensures { λ r. ⌜ DrewSheet (now (s .entry)) pitch area (now (px .entry)) (now (scratch .entry)) r (now (px .exit)) (now (scratch .exit)) ⌝ }
 {
-    let state = first_state(s, area);
+    let state = first_state(s, pitch, area);
     let grounded = fill_ground(state, px, ground(s)).steps;
     let steps = render(s, state, px, scratch);
     let answer = Answer {
@@ -86,18 +95,18 @@ pub fn draw_in(s: &[u8], area: IRect, px: &mut [u32], scratch: &mut [f32]) -> Re
     }
 }
 
-// Paints a sheet: every pixel the ground, then its items in their order.
-pub fn paint(sheet: &[u8], px: &mut [u32], scratch: &mut [f32]) -> Reply
-    ensures { λ r. ⌜ Painted zeroWord format (now (sheet .entry)) (now (px .entry)) (now (scratch .entry)) r (now (px .exit)) (now (scratch .exit)) ⌝ }
+// Paints a sheet: every pixel the ground, then its items in their order. The pixel in column x and row y is the word y × pitch + x of px.
+pub fn paint(sheet: &[u8], pitch: usize, px: &mut [u32], scratch: &mut [f32]) -> Reply
+    ensures { λ r. ⌜ Painted zeroWord format (now (sheet .entry)) pitch (now (px .entry)) (now (scratch .entry)) r (now (px .exit)) (now (scratch .exit)) ⌝ }
 {
     let v = check_sheet(sheet);
     let number = v.number;
     if number != 0 {
         return refusal(number, v.item);
     }
-    let lent = lent_number(sheet, px.len(), scratch.len());
+    let lent = lent_number(sheet, pitch, px.len(), scratch.len());
     if lent != 0 {
         return refusal(lent, 0);
     }
-    draw_in(sheet, canvas_of(sheet), px, scratch)
+    draw_in(sheet, pitch, canvas_of(sheet), px, scratch)
 }

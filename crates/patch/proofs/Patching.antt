@@ -16,43 +16,42 @@ use Rattle.gfx.proofs.Valid.{clip-of}
 use Rattle.sheet.specs.Check.{widthOf, heightOf, verdict, sheetCheck}
 use Rattle.items.specs.Format.{kind, sheetOf, reading, format}
 use Rattle.redraw.specs.Sheet as redraw
-use Rattle.redraw.specs.Sheet.{Reading, read, Change, other, shapes, reaches, few, canvas, sameHeader, refuses, draws, lent, patchOf, patching}
+use Rattle.redraw.specs.Sheet.{Reading, read, Change, other, shapes, reaches, few, canvas, sameHeader, refuses, draws, lentNumber, lent, patchOf, patching}
 use Rattle.compare.specs.Compare.{found, changeNumber, changeBox}
 use Rattle.compare.proofs.Changes.{patch-by}
-use Rattle.paint.specs.Paint.{lentNumber}
 use Rattle.items.proofs.Readings.{reads-accepted}
-use Rattle.paint.proofs.Painting.{lent-outcome, lent-draws}
+use Rattle.redraw.proofs.Rules.{lent-refused, lent-draws}
 
 -- ---- the outcome
 
-module _ (old new : List ℕ) (p : sheetCheck old ≡ verdict 0 0) (q : sheetCheck new ≡ verdict 0 0) (n words : ℕ) where
+module _ (old new : List ℕ) (p : sheetCheck old ≡ verdict 0 0) (q : sheetCheck new ≡ verdict 0 0) (pitch n words : ℕ) where
   abbrev box : IRect
   box = changeBox (canvas (sheetOf new)) (found old new)
 
-  both : patching format old new n words ≡ patchOf format (read (sheetOf old)) (read (sheetOf new)) n words
+  both : patching format old new pitch n words ≡ patchOf format (read (sheetOf old)) (read (sheetOf new)) pitch n words
   unfolding patching
   both =
-      ap (λ (r : Reading (List ℕ)). patchOf format r (reading new) n words) (reads-accepted old p)
-      ∙ ap (λ (r : Reading (List ℕ)). patchOf format (read (sheetOf old)) r n words) (reads-accepted new q)
+      ap (λ (r : Reading (List ℕ)). patchOf format r (reading new) pitch n words) (reads-accepted old p)
+      ∙ ap (λ (r : Reading (List ℕ)). patchOf format (read (sheetOf old)) r pitch n words) (reads-accepted new q)
 
-  pub other-header : sameHeader (sheetOf old) (sheetOf new) ≡ false → patching format old new n words ≡ refuses 10 0
+  pub other-header : sameHeader (sheetOf old) (sheetOf new) ≡ false → patching format old new pitch n words ≡ refuses 10 0
   unfolding patchOf
   other-header h = both ∙ rw h
 
   module _ (h : sameHeader (sheetOf old) (sheetOf new) ≡ true) where
-    by-change : patching format old new n words ≡ cond (eqb (changeNumber (found old new)) 0) (lent format (sheetOf new) n words box) (refuses (changeNumber (found old new)) 0)
+    by-change : patching format old new pitch n words ≡ cond (eqb (changeNumber (found old new)) 0) (lent format (sheetOf new) pitch n words box) (refuses (changeNumber (found old new)) 0)
     unfolding patchOf
-    by-change = both ∙ rw h (patch-by (found old new) (sheetOf new) n words)
+    by-change = both ∙ rw h (patch-by (found old new) (sheetOf new) pitch n words)
 
-    pub not-allowed : (changeNumber (found old new) ≡ 0 → ⊥) → patching format old new n words ≡ refuses (changeNumber (found old new)) 0
+    pub not-allowed : (changeNumber (found old new) ≡ 0 → ⊥) → patching format old new pitch n words ≡ refuses (changeNumber (found old new)) 0
     not-allowed k = by-change ∙ rw (ne-eqb _ 0 k)
 
     module _ (z : changeNumber (found old new) ≡ 0) where
-      pub not-lent : (lentNumber new n words ≡ 0 → ⊥) → patching format old new n words ≡ refuses (lentNumber new n words) 0
-      not-lent k = by-change ∙ rw (eq-eqb _ 0 z) (lent-outcome new n words box k)
+      pub not-lent : (m : ℕ) → lentNumber format (sheetOf new) pitch n words ≡ m → (m ≡ 0 → ⊥) → patching format old new pitch n words ≡ refuses m 0
+      not-lent m e k = by-change ∙ rw (eq-eqb _ 0 z) (lent-refused format (sheetOf new) pitch n words box m e k)
 
-      pub drawn-new : lentNumber new n words ≡ 0 → patching format old new n words ≡ draws (sheetOf new) box
-      drawn-new k = by-change ∙ rw (eq-eqb _ 0 z) (lent-draws new n words box k)
+      pub drawn-new : lentNumber format (sheetOf new) pitch n words ≡ 0 → patching format old new pitch n words ≡ draws (sheetOf new) box
+      drawn-new k = by-change ∙ rw (eq-eqb _ 0 z) (lent-draws format (sheetOf new) pitch n words box k)
 
 -- ---- the box
 

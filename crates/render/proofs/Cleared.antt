@@ -1,10 +1,10 @@
 -- Scratch words that are set to +0. Assumes nothing.
-use Prim.Native.Nat.{ℕ, zero, suc, _+_, _-_, _≤_, max}
-use mathlib.Core.Path.{_≡_, refl, sym, ap, _∙_}
-use mathlib.Core.List.{List, [], _∷_, _++_}
+use Prim.Native.Nat.{ℕ, zero, suc, _≤_, max}
+use mathlib.Core.Path.{_≡_, refl, ap}
+use mathlib.Core.List.{List, [], _∷_}
 use native.Mathlib.Omega.{arith}
 use lib.Ieee.{Float}
-use lib.ListN.{length, drop, replicate, length-append, length-replicate, length-drop}
+use lib.ListN.{length, length-append, length-replicate, length-drop}
 use lib.Seq.{drop-nil}
 use Rattle.mathf.specs.F32.{f0}
 use Rattle.poly.specs.Poly.{cleared}

@@ -8,7 +8,6 @@ use borrow.Author.Tests.{eq-eqb, leb-true, le-leb}
 use lib.Dec.{leb}
 use lib.Ieee.{Float}
 use lib.ListN.{length}
-use Rattle.geom.specs.Int.{up}
 use Rattle.geom.specs.Plane.{rectOk, ptOk, floatOk}
 use Rattle.geom.specs.declared.IRect.{IRect}
 use Rattle.geom.specs.declared.Pt.{Pt}
@@ -16,12 +15,12 @@ use Rattle.geom.proofs.Bools.{and-left, and-right, and-both}
 use Rattle.draw.specs.Draw.{drawn, differ}
 use Rattle.draw.specs.Parts.{part, altersAll}
 use Rattle.draw.proofs.Parts.{one-alters}
-use Rattle.gfx.specs.Calls.{areaOf, left, shapeNumber}
+use Rattle.gfx.specs.Calls.{left, shapeNumber}
 use Rattle.gfx.specs.Points.{pointsOk, coordsOk, pointsNumber}
 use Rattle.paints.specs.Paints.{paintOk}
 use Rattle.gfx.specs.declared.Canvas.{Canvas}
 use Rattle.paints.specs.declared.Paint.{Paint}
-use Rattle.gfx.proofs.Sizes.{Open}
+use Rattle.gfx.proofs.Sizes.{Open, open-number}
 use Rattle.line.specs.Lines.{lineOk}
 use Rattle.line.specs.Polylines.{polylineSteps}
 use Rattle.line.proofs.Joints.{polyline-drawn}
@@ -47,9 +46,9 @@ line-ok p q width e = e
 
 module _ (c : Canvas) (px : List ℕ) (o : Open c (length px)) where
   -- a shape call whose floats are in range draws
-  shape-drawn : (ok : Bool) (reach : IRect) (ink : ℕ → ℕ → ℕ → ℕ) → ok ≡ true → called c ok reach ink px ≡ drawn (up (c .w)) (c .clip) reach ink px
+  shape-drawn : (ok : Bool) (reach : IRect) (ink : ℕ → ℕ → ℕ → ℕ) → ok ≡ true → called c ok reach ink px ≡ drawn (c .pitch) (c .clip) reach ink px
   unfolding left shapeNumber
-  shape-drawn ok reach ink e = rw (o .valid, eq-eqb (length px) (areaOf (c .w) (c .h)) (o .count), e)
+  shape-drawn ok reach ink e = rw (open-number o, e)
 
 -- a polygon or a chain: at most 64 points, whose floats stand in its bytes from a place on and are in range, as are the others that it has
 module _ (b : List ℕ) (from count : ℕ) (others : Bool) (ok : leb count 64 && floats b from (2 * count) && others ≡ true) where
@@ -69,13 +68,7 @@ module _ (b : List ℕ) (from count : ℕ) (others : Bool) (ok : leb count 64 &&
   points-accepted : (c : Canvas) (px : List ℕ) → Open c (length px) → pointsNumber c (length px) (coordsFrom b from (2 * count)) others ≡ 0
   unfolding pointsNumber
   points-accepted c px o =
-      rw (
-        o .valid,
-        eq-eqb (length px) (areaOf (c .w) (c .h)) (o .count),
-        points,
-        coords,
-        and-right (leb count 64 && floats b from (2 * count)) others ok,
-      )
+      rw (open-number o, points, coords, and-right (leb count 64 && floats b from (2 * count)) others ok)
 
 module _ (b : List ℕ) (count : ℕ) (paint : Paint) (ok : leb count 64 && floats b 32 (2 * count) && paintOk paint ≡ true) where
   poly-ok : polyOk (pointsOf b count) ≡ true
@@ -91,7 +84,7 @@ module _ (b : List ℕ) (count : ℕ) (paint : Paint) (ok : leb count 64 && floa
 module _ (b : List ℕ) (c : Canvas) (px : List ℕ) (o : Open c (length px)) (scratch : List Float) where
   -- px, by the item that the bytes are
   pub px-item : (i : Item) → itemOf b ≡ i → itemOk b (c .depth) i ≡ true → needOf b i ≤ length scratch
-      → shapePx b i c px (length scratch) ≡ drawing.itemOn kind (up (c .w)) (drawnAs b i) (c .clip) px
+      → shapePx b i c px (length scratch) ≡ drawing.itemOn kind (c .pitch) (drawnAs b i) (c .clip) px
   unfolding shapePx itemOk needOf reachOf inkOf drawnAs drawing.itemOn drawing.shapeOn polyPx chainPx left
   px-item (Push rect) e k h = refl
   px-item Pop e k h = refl
@@ -102,7 +95,7 @@ module _ (b : List ℕ) (c : Canvas) (px : List ℕ) (o : Open c (length px)) (s
       rw (e, few b 32 count (paintOk paint) k, poly-accepted b count paint k c px (length scratch) o h, reach-in _ (poly-ok b count paint k))
   px-item (Shadow rect r blur color skip) e k h = rw (e) (shape-drawn c px o _ _ _ (three (rectOk rect) (floatOk r) (floatOk blur) k))
   px-item (Chain width color count) e k h =
-      rw (e, few b 12 count (floatOk width) k, points-accepted b 12 count (floatOk width) k c px o) (polyline-drawn (jointsOf b count) width color (up (c .w)) (c .clip) px)
+      rw (e, few b 12 count (floatOk width) k, points-accepted b 12 count (floatOk width) k c px o) (polyline-drawn (jointsOf b count) width color (c .pitch) (c .clip) px)
   px-item Unknown e k h = absurd (false≢true k)
 
   pub scratch-item : (i : Item) → itemOk b (c .depth) i ≡ true → needOf b i ≤ length scratch
@@ -120,13 +113,13 @@ module _ (b : List ℕ) (c : Canvas) (px : List ℕ) (o : Open c (length px)) (s
   scratch-item Unknown k h = absurd (false≢true k)
 
   -- a shape of one part alters the pixels at which px before and after it differ
-  one-step : (i : Item) → itemOf b ≡ i → partsOf b i ≡ alone b i → (qx : List ℕ) → qx ≡ drawing.shapeOn kind (up (c .w)) (c .clip) b px
-      → differ px qx ≡ altersAll (up (c .w)) (c .clip) (kind .parts b) px
+  one-step : (i : Item) → itemOf b ≡ i → partsOf b i ≡ alone b i → (qx : List ℕ) → qx ≡ drawing.shapeOn kind (c .pitch) (c .clip) b px
+      → differ px qx ≡ altersAll (c .pitch) (c .clip) (kind .parts b) px
   unfolding drawing.shapeOn
-  one-step i e p qx d = ap (differ px) d ∙ rw (e, p) (sym (one-alters (up (c .w)) (c .clip) (part (reachOf b i) (inkOf b i)) px))
+  one-step i e p qx d = ap (differ px) d ∙ rw (e, p) (sym (one-alters (c .pitch) (c .clip) (part (reachOf b i) (inkOf b i)) px))
 
   pub steps-item : (i : Item) → itemOf b ≡ i → itemOk b (c .depth) i ≡ true → needOf b i ≤ length scratch
-      → shapeSteps b i c px (length scratch) ≡ itemAlters kind (up (c .w)) (drawnAs b i) (c .clip) px
+      → shapeSteps b i c px (length scratch) ≡ itemAlters kind (c .pitch) (drawnAs b i) (c .clip) px
   unfolding shapeSteps shapePx itemOk partsOf drawnAs drawing.itemOn itemAlters chainSteps polylineSteps
   steps-item (Push rect) e k h = refl
   steps-item Pop e k h = refl

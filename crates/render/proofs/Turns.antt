@@ -48,7 +48,7 @@ module _ (s : List ℕ) (n : ℕ) (state₀ : Canvas) (px₀ : List ℕ) (scratc
   pub record Run (state : Canvas) (px : List ℕ) (scratch : List Float) (steps k : ℕ) : Type 0 where
     pub rest : stagesFrom s (n - k) k (stage state px scratch) ≡ stagesFrom s n 0 (stage state₀ px₀ scratch₀)
     pub counts : steps + stepsFrom s (n - k) k (stage state px scratch) ≡ stepsFrom s n 0 (stage state₀ px₀ scratch₀)
-    pub few : steps ≤ 268435456 * k
+    pub few : steps ≤ 536870912 * k
     pub within : k ≤ n
     pub px-length : length px ≡ length px₀
     pub scratch-length : length scratch ≡ length scratch₀

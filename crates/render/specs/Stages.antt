@@ -7,7 +7,6 @@ use mathlib.Core.Path.{_≡_}
 use lib.Dec.{leb, eqb}
 use lib.Ieee.{Float}
 use lib.ListN.{length}
-use Rattle.geom.specs.Int.{up}
 use Rattle.geom.specs.Plane.{floatOk}
 use Rattle.geom.specs.declared.IRect.{IRect}
 use Rattle.color.specs.declared.Color.{Color}
@@ -30,13 +29,13 @@ use Rattle.clips.specs.States.{stateAfter}
 
 -- px after a shape call, by whether its floats are in range
 abbrev pub called : Canvas → Bool → IRect → (ℕ → ℕ → ℕ → ℕ) → List ℕ → List ℕ
-called c ok reach ink px = left (shapeNumber c (length px) ok) px (drawn (up (c .w)) (c .clip) reach ink px)
+called c ok reach ink px = left (shapeNumber c (length px) ok) px (drawn (c .pitch) (c .clip) reach ink px)
 
 -- px and scratch after the call for a polygon of so many points: none is made for more than 64
 unfoldable pub polyPx : List ℕ → ℕ → Paint → Canvas → List ℕ → ℕ → List ℕ
 polyPx b count paint c px words =
     let pts = pointsOf b count in
-    cond (leb count 64) (left (polyNumber c (length px) pts paint words) px (drawn (up (c .w)) (c .clip) (polyReach pts) (polyInk pts paint) px)) px
+    cond (leb count 64) (left (polyNumber c (length px) pts paint words) px (drawn (c .pitch) (c .clip) (polyReach pts) (polyInk pts paint) px)) px
 
 unfoldable pub polyScratch : List ℕ → ℕ → Paint → Canvas → ℕ → List Float → List Float
 polyScratch b count paint c n scratch =
@@ -47,13 +46,13 @@ polyScratch b count paint c n scratch =
 unfoldable pub chainPx : List ℕ → ℕ → Float → Color → Canvas → List ℕ → List ℕ
 chainPx b count width color c px =
     let pts = jointsOf b count in
-    cond (leb count 64) (left (pointsNumber c (length px) pts (floatOk width)) px (polylined (up (c .w)) (c .clip) pts width color px)) px
+    cond (leb count 64) (left (pointsNumber c (length px) pts (floatOk width)) px (polylined (c .pitch) (c .clip) pts width color px)) px
 
 -- the steps of that call that alter a pixel's value
 unfoldable pub chainSteps : List ℕ → ℕ → Float → Color → Canvas → List ℕ → ℕ
 chainSteps b count width color c px =
     let pts = jointsOf b count in
-    cond (leb count 64) (cond (eqb (pointsNumber c (length px) pts (floatOk width)) 0) (polylineSteps (up (c .w)) (c .clip) pts width color px) 0) 0
+    cond (leb count 64) (cond (eqb (pointsNumber c (length px) pts (floatOk width)) 0) (polylineSteps (c .pitch) (c .clip) pts width color px) 0) 0
 
 -- px after an item, where so many scratch words are lent
 unfoldable pub shapePx : List ℕ → Item → Canvas → List ℕ → ℕ → List ℕ
@@ -80,7 +79,7 @@ shapeSteps b (Shadow rect r blur color skip) c px words = differ px (shapePx b (
 shapeSteps b (Chain width color count) c px words = chainSteps b count width color c px
 shapeSteps b Unknown c px words = 0
 
--- scratch after an item, where n pixels are lent
+-- scratch after an item, where n words of px are lent
 unfoldable pub shapeScratch : List ℕ → Item → Canvas → ℕ → List Float → List Float
 shapeScratch b (Push rect) c n scratch = scratch
 shapeScratch b Pop c n scratch = scratch

@@ -18,20 +18,22 @@ pub struct Replayed {
     pub to: usize,
 }
 
-// A patch from the kept sheet, sheets[from..to], to sheets[at..end].
+// A patch from the kept sheet to sheets[at..end].
 fn advance(
     sheets: &[u8],
-    from: usize,
-    to: usize,
+    kept: Replayed,
     at: usize,
     end: usize,
+    pitch: usize,
     px: &mut [u32],
     scratch: &mut [f32],
 ) -> Replayed
-    requires { ⌜ (from ≤ to) × (to ≤ length (now sheets)) × (at ≤ end) × (end ≤ length (now sheets)) ⌝ }
-    ensures { λ r. ⌜ Advanced format (now (sheets .entry)) from to at end (now (px .entry)) (now (scratch .entry)) r (now (px .exit)) (now (scratch .exit)) ⌝ }
+    requires { ⌜ (kept .from ≤ kept .to) × (kept .to ≤ length (now sheets)) × (at ≤ end) × (end ≤ length (now sheets)) ⌝ }
+    ensures { λ r. ⌜ Advanced format (now (sheets .entry)) (kept .from) (kept .to) at end pitch (now (px .entry)) (now (scratch .entry)) r (now (px .exit)) (now (scratch .exit)) ⌝ }
 {
-    let a = patch(&sheets[from..to], &sheets[at..end], px, scratch).answer;
+    let from = kept.from;
+    let to = kept.to;
+    let a = patch(&sheets[from..to], &sheets[at..end], pitch, px, scratch).answer;
     let n = a.number;
     if n == 0 {
         return Replayed {
@@ -42,8 +44,8 @@ fn advance(
     }
     Replayed {
         answer: a,
-        from: from,
-        to: to,
+        from,
+        to,
     }
 }
 
@@ -53,11 +55,12 @@ fn patches(
     start: usize,
     lens: &[usize],
     state: Replayed,
+    pitch: usize,
     px: &mut [u32],
     scratch: &mut [f32],
 ) -> Replayed
     requires { ⌜ (state .from ≤ state .to) × (state .to ≤ length (now sheets)) × (start ≤ length (now sheets)) ⌝ }
-    ensures { λ r. ⌜ Runs format (now (sheets .entry)) start (now (lens .entry)) state (now (px .entry)) (length (now (scratch .entry))) r (now (px .exit)) ⌝ }
+    ensures { λ r. ⌜ Runs format (now (sheets .entry)) start (now (lens .entry)) state pitch (now (px .entry)) (length (now (scratch .entry))) r (now (px .exit)) ⌝ }
 {
     let mut s = state;
     let mut at = start;
@@ -68,27 +71,27 @@ fn patches(
             return s;
         }
         let end = at + n;
-        let from = s.from;
-        let to = s.to;
-        s = advance(sheets, from, to, at, end, px, scratch);
+        s = advance(sheets, s, at, end, pitch, px, scratch);
         at = end;
         k += 1;
     }
     s
 }
 
-// Paints sheets[..first], and patches to each of the sheets that follow it, by their lengths, each from the sheet accepted last.
-// Where the painting is accepted, px is then the fresh painting of the kept sheet, which with the last answer is the model's.
+// Paints sheets[..first], and patches to each of the sheets that follow it, by their lengths, each from the sheet accepted last, all in rows of
+// `pitch` words. Where the painting is accepted, px then shows the fresh painting of the kept sheet, which with the last answer is the model's, and
+// the words past the canvas are as they came.
 pub fn replay(
     sheets: &[u8],
     first: usize,
     lens: &[usize],
+    pitch: usize,
     px: &mut [u32],
     scratch: &mut [f32],
 ) -> Replayed
     ensures { λ r. ⌜ (first ≤ length (now (sheets .entry))
-        → accepted (painting format (take first (now (sheets .entry))) (length (now (px .entry))) (length (now (scratch .entry)))) ≡ true
-        → Replays format (now (sheets .entry)) first (now (lens .entry)) (length (now (px .entry))) (length (now (scratch .entry))) r (now (px .exit))) ⌝ }
+        → accepted (painting format (take first (now (sheets .entry))) pitch (length (now (px .entry))) (length (now (scratch .entry)))) ≡ true
+        → Replays format (now (sheets .entry)) first (now (lens .entry)) pitch (now (px .entry)) (length (now (scratch .entry))) r (now (px .exit))) ⌝ }
 {
     if sheets.len() < first {
         let none = refusal(1, 0).answer;
@@ -98,7 +101,7 @@ pub fn replay(
             to: 0,
         };
     }
-    let a = paint(&sheets[..first], px, scratch).answer;
+    let a = paint(&sheets[..first], pitch, px, scratch).answer;
     let n = a.number;
     let state = Replayed {
         answer: a,
@@ -108,5 +111,5 @@ pub fn replay(
     if n != 0 {
         return state;
     }
-    patches(sheets, first, lens, state, px, scratch)
+    patches(sheets, first, lens, state, pitch, px, scratch)
 }

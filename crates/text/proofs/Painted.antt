@@ -17,7 +17,8 @@ use Rattle.redraw.specs.Calls.{Painted}
 use Rattle.redraw.proofs.Lists.{Paints, paint-accepted, paint-numbered, zero-accepted, shown-first}
 use Rattle.items.specs.Format.{kind, sheetOf, format, zeroWord}
 use Rattle.items.proofs.Lawful.{lawful}
-use Rattle.items.proofs.Readings.{read-is}
+use Rattle.redraw.proofs.Frames.{shown-whole}
+use Rattle.items.proofs.Readings.{read-is, reads-accepted}
 use Rattle.text.specs.Picture.{pictureOf}
 use Rattle.text.specs.Text.{refusalText, outcomeText}
 
@@ -31,27 +32,27 @@ unfolding outcomeText
 drawn-text o s e = rw e
 
 module _ (s px : List ℕ) (scratch : List Float) (a : Reply) (px′ : List ℕ) (scratch′ : List Float)
-    (did : Painted zeroWord format s px scratch a px′ scratch′) where
+    (did : Painted zeroWord format s (widthOf s) px scratch a px′ scratch′) where
   abbrev outcome : Outcome (List ℕ)
-  outcome = painting format s (length px) (length scratch)
+  outcome = painting format s (widthOf s) (length px) (length scratch)
 
   pub refusal-shown : (a .answer .number ≡ 0 → ⊥) → outcomeText outcome ≡ refusalText (a .answer .number) (a .answer .item)
   refusal-shown h = refused-text outcome (a .answer) (did .answers) h
 
   module _ (zero : a .answer .number ≡ 0) where
     yes : accepted outcome ≡ true
-    yes = zero-accepted outcome (paint-numbered format lawful s (length px) (length scratch)) (sym (ap (λ (r : Answer). r .number) (did .answers)) ∙ zero)
+    yes = zero-accepted outcome (paint-numbered format lawful s (widthOf s) (length px) (length scratch)) (sym (ap (λ (r : Answer). r .number) (did .answers)) ∙ zero)
 
-    drew : Paints format s (length px) (length scratch)
-    drew = paint-accepted format s (length px) (length scratch) yes
+    drew : Paints format s (widthOf s) (length px) (length scratch)
+    drew = paint-accepted format s (widthOf s) (length px) (length scratch) yes
 
     held-is : drew .held ≡ sheetOf s
     held-is = read-is s (drew .held) (drew .reads) .1
 
     fresh-is : px′ ≡ fresh kind (sheetOf s)
     fresh-is =
-        let shown = shown-first zeroWord format lawful s px scratch a px′ scratch′ did yes in
-        shown .fresh-px ∙ ap (λ (t : Sheet (List ℕ)). fresh kind t) (read-is s (shown .held) (shown .reads) .1)
+        shown-whole format px s px′ (sheetOf s) (reads-accepted s (read-is s (drew .held) (drew .reads) .0))
+        (shown-first zeroWord format lawful s (widthOf s) px scratch a px′ scratch′ did yes)
 
     pub picture-shown : outcomeText outcome ≡ pictureOf (widthOf s) px′
     picture-shown = drawn-text outcome (drew .held) (drew .is) ∙ rw (held-is, fresh-is)

@@ -1,5 +1,5 @@
 -- Texts, computed: two refusals, the greatest number, and two rows of two pixels. Assumes nothing.
-use mathlib.Core.List.{List, [], _∷_, _++_}
+use mathlib.Core.List.{[], _∷_, _++_}
 use mathlib.Core.Path.{_≡_, refl}
 use Rattle.text.specs.Picture.{pixelText, byteOf, table, pictureOf}
 use Rattle.text.specs.Text.{decimalIn, decimalOf, refusedWord, atWord, newline, refusalText}

@@ -42,9 +42,9 @@ outcomeText (draws s box) = pictureOf (s .w) (fresh kind s)
 abbrev pub lentOf : List ℕ → ℕ → ℕ
 lentOf sheet n = min (widthOf sheet * heightOf sheet) n
 
--- the text of a sheet, with so many pixels and scratch words at hand
+-- the text of a sheet, with so many pixels and scratch words at hand; a row has as many words as the canvas has columns
 unfoldable pub textOf : List ℕ → ℕ → ℕ → List ℕ
-textOf sheet pixels words = outcomeText (painting format sheet (lentOf sheet pixels) words)
+textOf sheet pixels words = outcomeText (painting format sheet (widthOf sheet) (lentOf sheet pixels) words)
 
 -- a text was put at the start of a buffer, and its length returned; bytes past it stay as they came
 pub record Put (text out : List ℕ) (r : ℕ) (out′ : List ℕ) : Type 0 where

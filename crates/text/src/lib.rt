@@ -9,6 +9,7 @@ ghost use mathlib.Core.Path.{_≡_};
 ghost use Prim.Native.Nat.{_+_, _*_, _≤_, _<_};
 ghost use lib.ListN.{length};
 ghost use Rattle.io.specs.Counts.{Counts};
+ghost use Rattle.sheet.specs.Check.{widthOf};
 ghost use Rattle.redraw.specs.Sheet.{painting};
 ghost use Rattle.items.specs.Format.{format};
 ghost use Rattle.encode.specs.Placed.{placed};
@@ -58,14 +59,15 @@ fn put_picture(out: &mut [u8], px: &[u32], w: usize) -> usize
     n
 }
 
-// Paints a sheet on the pixels that it is lent, and puts the text of what came of it.
+// Paints a sheet on the pixels that it is lent, in rows that are as long as its canvas, and puts the text of what came of it.
 fn shown(s: &[u8], px: &mut [u32], scratch: &mut [f32], out: &mut [u8]) -> usize
     requires { ⌜ (9 * length (now px) ≤ length (now out)) × (33 ≤ length (now out)) ⌝ }
-    ensures { λ r. ⌜ Put (outcomeText (painting format (now (s .entry)) (length (now (px .entry))) (length (now (scratch .entry))))) (now (out .entry)) r (now (out .exit)) ⌝ }
+    ensures { λ r. ⌜ Put (outcomeText (painting format (now (s .entry)) (widthOf (now (s .entry))) (length (now (px .entry))) (length (now (scratch .entry))))) (now (out .entry)) r (now (out .exit)) ⌝ }
 {
-    let a = paint(s, px, scratch).answer;
+    let w = u16_at(s, 0);
+    let a = paint(s, w, px, scratch).answer;
     if a.number == 0 {
-        put_picture(out, px, u16_at(s, 0))
+        put_picture(out, px, w)
     } else {
         put_refusal(out, a.number, a.item)
     }

@@ -3,7 +3,7 @@ use mathlib.Core.Path.{_≡_, refl, ap, _∙_}
 use Prim.Native.Nat.{_+_, _-_, _≤_}
 use native.Mathlib.Omega.{arith}
 use lib.ListN.{length}
-use Rattle.draw.specs.Areas.{area, drawnIn, AreaFits}
+use Rattle.draw.specs.Areas.{area, drawnIn}
 use Rattle.draw.proofs.Rows.{length-drawn, none-down, rows-join, room-of}
 use Rattle.draw.proofs.Frame.{framed-area}
 use Rattle.gfx.proofs.store_rows.Statement.{statement}

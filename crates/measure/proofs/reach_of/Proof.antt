@@ -1,6 +1,5 @@
 -- `measure::reach_of` meets its contract. Assumes nothing.
 use mathlib.Core.Path.{sym, _∙_}
-use native.Mathlib.Omega.{arith}
 use Rattle.items.specs.Items.{readItem}
 use Rattle.items.specs.Format.{reachOf}
 use Rattle.measure.proofs.reach_of.Statement.{statement}

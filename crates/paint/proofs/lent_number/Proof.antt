@@ -1,13 +1,18 @@
 -- `paint::lent_number` meets its contract. Assumes nothing.
-use mathlib.Core.Path.{_≡_, _∙_}
-use Prim.Native.Nat.{_*_, _≤_}
-use native.Mathlib.Nat.{mul-le-mul}
+use mathlib.Core.Path.{_≡_, _∙_, sym}
 use native.Mathlib.Omega.{arith}
-use borrow.Author.Tests.{eq-eqb, ne-eqb, le-leb, lt-leb}
+use borrow.Author.Tests.{le-leb, lt-leb}
+use denote.Ref.{now}
+use Rattle.geom.proofs.Refusals.{then-refused, then-passed}
+use Rattle.draw.specs.Frame.{frameNumber}
 use Rattle.sheet.specs.Check.{widthOf, heightOf}
-use Rattle.paint.specs.Paint.{lentNumber}
+use Rattle.redraw.specs.Sheet.{lentNumber}
 use Rattle.paint.proofs.lent_number.Statement.{statement}
 use Rattle.paint.proofs.lent_number.Tie as tie
+
+number : (c : tie.After-frame-number) → let st = c .before .before .before .before in
+    c .frame-number .result ≡ frameNumber (widthOf (now (st .args .s))) (heightOf (now (st .args .s))) (st .args .pitch) (st .args .n)
+number c = rw (c .before .u16-at2 .ensures .0, c .before .before .u16-at .ensures .0) at (c .frame-number .ensures)
 
 u16-at-requires : tie.Need-u16-at-requires
 u16-at-requires c κs = tt
@@ -15,16 +20,12 @@ u16-at-requires c κs = tt
 u16-at-requires-2 : tie.Need-u16-at-requires-2
 u16-at-requires-2 c κs = tt
 
-mul-if1 : tie.Need-mul-if1
-mul-if1 c =
-    let w : c .before .u16-at .result ≤ 65535 = omega (arith, c .before .u16-at .ensures .1) in
-    let h : c .u16-at2 .result ≤ 65535 = omega (arith, c .u16-at2 .ensures .1) in
-    let small : c .before .u16-at .result * c .u16-at2 .result ≤ 65535 * 65535 = mul-le-mul w h in
-    omega arith
+frame-number-requires : tie.Need-frame-number-requires
+frame-number-requires c κs = omega (arith, c .u16-at2 .ensures .1)
 
 returns : tie.Need-returns
 unfolding lentNumber
-returns c = rw (ne-eqb _ _ (rw (c .before .u16-at2 .ensures .0, c .before .before .u16-at .ensures .0) at (c .if1 .taken)))
+returns c = then-refused _ (number (c .before)) (c .if1 .taken)
 
 sheet-need-requires : tie.Need-sheet-need-requires
 sheet-need-requires c κs = tt
@@ -32,16 +33,16 @@ sheet-need-requires c κs = tt
 returns-2 : tie.Need-returns-2
 unfolding lentNumber
 returns-2 c =
-    let same = rw (c .before .before .before .u16-at2 .ensures .0, c .before .before .before .before .u16-at .ensures .0) at (c .before .before .if1 .left) in
-    rw (eq-eqb _ _ same, lt-leb _ _ (rw (c .before .sheet-need .ensures) at (c .if2 .taken)))
+    let d = c .before .before in
+    rw (lt-leb _ _ (rw (c .before .sheet-need .ensures) at (c .if2 .taken))) (then-passed 9 (sym (number (d .before)) ∙ d .if1 .left))
 
 returns-3 : tie.Need-returns-3
 unfolding lentNumber
 returns-3 c =
-    let same = rw (c .before .before .before .u16-at2 .ensures .0, c .before .before .before .before .u16-at .ensures .0) at (c .before .before .if1 .left) in
-    rw (eq-eqb _ _ same, le-leb _ _ (rw (c .before .sheet-need .ensures) at (c .if2 .left)))
+    let d = c .before .before in
+    rw (le-leb _ _ (rw (c .before .sheet-need .ensures) at (c .if2 .left))) (then-passed 0 (sym (number (d .before)) ∙ d .if1 .left))
 
 pub lent-number-spec : {M : Type 1} → statement M
 lent-number-spec =
     tie.close
-    (tie.spec u16-at-requires u16-at-requires-2 mul-if1 returns sheet-need-requires returns-2 returns-3)
+    (tie.spec u16-at-requires u16-at-requires-2 frame-number-requires returns sheet-need-requires returns-2 returns-3)

@@ -1,11 +1,12 @@
 -- `paint::paint` meets its contract, each return by its law. Assumes nothing.
-use mathlib.Core.Path.{sym, ap, _∙_}
+use mathlib.Core.Path.{refl, sym, ap, _∙_}
 use Rattle.sheet.specs.declared.check.Verdict.{Verdict}
-use Rattle.items.specs.Format.{format, zeroWord}
-use Rattle.redraw.proofs.Rules.{paint-refused, does-refused}
-use Rattle.items.proofs.Readings.{clean, reads-refused}
+use Rattle.items.specs.Format.{sheetOf, format, zeroWord}
+use Rattle.redraw.proofs.Rules.{paint-refused, paint-unlent, paint-draws, does-refused}
+use Rattle.redraw.proofs.Lists.{lends-of}
+use Rattle.items.proofs.Readings.{clean, reads-refused, reads-accepted}
 use Rattle.clips.proofs.Standing.{whole}
-use Rattle.paint.proofs.Painting.{lent-accepted, paint-refuses, paint-accepts, drawn-does}
+use Rattle.paint.proofs.Painting.{drawn-does}
 use borrow.Author.Needs.{needs}
 use Rattle.paint.proofs.paint.Statement.{statement}
 use Rattle.paint.proofs.paint.Tie as tie
@@ -20,8 +21,8 @@ returns : tie.Need-returns
 returns c =
     let v = c .before .before .check-sheet in
     let a = c .before .before .before .before .before .before .args in
-    does-refused zeroWord format (a .px .now) (a .scratch .now) _ (v .result .number) (v .result .item) _
-    (paint-refused format (a .sheet .now) _ _ _ _ (reads-refused (a .sheet .now) _ _ (sym (v .ensures)) (c .before .if1 .taken)))
+    does-refused zeroWord format (a .pitch) (a .px .now) (a .scratch .now) _ (v .result .number) (v .result .item) _
+    (paint-refused format (a .sheet .now) _ _ _ _ _ (reads-refused (a .sheet .now) _ _ (sym (v .ensures)) (c .before .if1 .taken)))
     (c .refusal .ensures)
 
 lent-number-requires : tie.Need-lent-number-requires
@@ -36,8 +37,8 @@ returns-2 c =
     let a = c .before .before .before .before .before .before .before .before .args in
     let n = c .before .before .lent-number .ensures in
     let ok = clean (a .sheet .now) (sym (ap (λ (r : Verdict). r .number) (v .ensures)) ∙ c .before .before .before .if1 .left) in
-    does-refused zeroWord format (a .px .now) (a .scratch .now) _ _ 0 _
-    (paint-refuses (a .sheet .now) ok _ _ (rw n at (c .before .if2 .taken)))
+    does-refused zeroWord format (a .pitch) (a .px .now) (a .scratch .now) _ _ 0 _
+    (paint-unlent format (a .sheet .now) (a .pitch) _ _ (sheetOf (a .sheet .now)) (reads-accepted (a .sheet .now) ok) _ refl (rw n at (c .before .if2 .taken)))
     (c .refusal2 .ensures ∙ rw n)
 
 canvas-of-requires : tie.Need-canvas-of-requires
@@ -62,8 +63,8 @@ returns-3 c =
     let s = a .sheet .now in
     let ok = clean s (sym (ap (λ (r : Verdict). r .number) (v .check-sheet .ensures)) ∙ n .before .if1 .left) in
     let z = sym (n .lent-number .ensures) ∙ k .before .if2 .left in
-    let l = lent-accepted s _ _ z in
-    drawn-does s ok _ (whole s) (a .px .now) (a .scratch .now) (l .0) (l .1) (paint-accepts s ok _ _ z) (rw (k .canvas-of .ensures) at (d .draw-in .ensures))
+    drawn-does s (a .pitch) ok _ (whole s) (a .px .now) (a .scratch .now) (lends-of format (sheetOf s) (a .pitch) _ _ z)
+    (paint-draws format s (a .pitch) _ _ (sheetOf s) (reads-accepted s ok) z) (rw (k .canvas-of .ensures) at (d .draw-in .ensures))
 
 pub paint-spec : {M : Type 1} → statement M
 paint-spec =

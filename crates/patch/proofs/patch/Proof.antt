@@ -18,8 +18,8 @@ returns : tie.Need-returns
 returns c =
     let a = c .before .before .before .before .before .before .before .args in
     let v = c .before .before .check-sheet in
-    does-refused zeroWord format (a .px .now) (a .scratch .now) _ (v .result .number) (v .result .item) _
-    (patch-old-refused format (a .old .now) (a .new .now) _ _ _ _ (reads-refused (a .old .now) _ _ (sym (v .ensures)) (c .before .if1 .taken)))
+    does-refused zeroWord format (a .pitch) (a .px .now) (a .scratch .now) _ (v .result .number) (v .result .item) _
+    (patch-old-refused format (a .old .now) (a .new .now) _ _ _ _ _ (reads-refused (a .old .now) _ _ (sym (v .ensures)) (c .before .if1 .taken)))
     (c .refusal .ensures)
 
 check-sheet-requires-2 : tie.Need-check-sheet-requires-2
@@ -33,8 +33,8 @@ returns-2 c =
     let a = c .before .before .before .before .before .before .before .before .before .args in
     let v = c .before .before .check-sheet2 in
     let ok = clean (a .old .now) (sym (ap (λ (r : Verdict). r .number) (c .before .before .before .before .check-sheet .ensures)) ∙ c .before .before .before .if1 .left) in
-    does-refused zeroWord format (a .px .now) (a .scratch .now) _ (v .result .number) (v .result .item) _
-    (patch-new-refused format (a .old .now) (a .new .now) _ _ _ (reads-accepted (a .old .now) ok) _ _ (reads-refused (a .new .now) _ _ (sym (v .ensures)) (c .before .if2 .taken)))
+    does-refused zeroWord format (a .pitch) (a .px .now) (a .scratch .now) _ (v .result .number) (v .result .item) _
+    (patch-new-refused format (a .old .now) (a .new .now) _ _ _ _ (reads-accepted (a .old .now) ok) _ _ (reads-refused (a .new .now) _ _ (sym (v .ensures)) (c .before .if2 .taken)))
     (c .refusal2 .ensures)
 
 patch-read-requires : tie.Need-patch-read-requires

@@ -1,10 +1,11 @@
 -- `patch::patch_read` meets its contract. Each return by its law. Assumes nothing.
 use mathlib.Core.Path.{sym, ap, _∙_}
 use borrow.Author.Tests.{not-true, not-false}
-use Rattle.items.specs.Format.{format, zeroWord}
+use Rattle.items.specs.Format.{sheetOf, format, zeroWord}
 use Rattle.redraw.proofs.Rules.{does-refused}
 use Rattle.compare.specs.declared.Difference.{Difference}
-use Rattle.paint.proofs.Painting.{lent-accepted, drawn-does}
+use Rattle.redraw.proofs.Lists.{lends-of}
+use Rattle.paint.proofs.Painting.{drawn-does}
 use Rattle.patch.proofs.Patching.{other-header, not-allowed, not-lent, drawn-new, box-clip}
 use borrow.Author.Needs.{needs}
 use Rattle.patch.proofs.patch_read.Statement.{statement}
@@ -19,8 +20,8 @@ refusal-requires c κs = tt
 returns : tie.Need-returns
 returns c =
     let a = c .before .before .before .before .before .before .before in
-    does-refused zeroWord format (a .args .px .now) (a .args .scratch .now) _ 10 0 _
-    (other-header (a .args .old .now) (a .args .new .now) (a .pre .first) (a .pre .second) _ _ (sym (c .before .before .same-header .ensures) ∙ not-true _ (c .before .if1 .taken)))
+    does-refused zeroWord format (a .args .pitch) (a .args .px .now) (a .args .scratch .now) _ 10 0 _
+    (other-header (a .args .old .now) (a .args .new .now) (a .pre .first) (a .pre .second) _ _ _ (sym (c .before .before .same-header .ensures) ∙ not-true _ (c .before .if1 .taken)))
     (c .refusal .ensures)
 
 changed-requires : tie.Need-changed-requires
@@ -33,8 +34,8 @@ returns-2 : tie.Need-returns-2
 returns-2 c =
     let a = c .before .before .before .before .before .before .before .before .before in
     let d = ap (λ (r : Difference). r .number) (c .before .before .changed .ensures) in
-    does-refused zeroWord format (a .args .px .now) (a .args .scratch .now) _ _ 0 _
-    (not-allowed (a .args .old .now) (a .args .new .now) (a .pre .first) (a .pre .second) _ _ (sym (c .before .before .before .before .same-header .ensures) ∙ not-false _ (c .before .before .before .if1 .left))
+    does-refused zeroWord format (a .args .pitch) (a .args .px .now) (a .args .scratch .now) _ _ 0 _
+    (not-allowed (a .args .old .now) (a .args .new .now) (a .pre .first) (a .pre .second) _ _ _ (sym (c .before .before .before .before .same-header .ensures) ∙ not-false _ (c .before .before .before .if1 .left))
     (λ z. c .before .if2 .taken (d ∙ z)))
     (c .refusal2 .ensures ∙ rw d)
 
@@ -49,10 +50,10 @@ returns-3 c =
     let a = c .before .before .before .before .before .before .before .before .before .before .before in
     let d = ap (λ (r : Difference). r .number) (c .before .before .before .before .changed .ensures) in
     let l = c .before .before .lent-number .ensures in
-    does-refused zeroWord format (a .args .px .now) (a .args .scratch .now) _ _ 0 _
-    (not-lent (a .args .old .now) (a .args .new .now) (a .pre .first) (a .pre .second) _ _ (sym (c .before .before .before .before .before .before .same-header .ensures) ∙ not-false _ (c .before .before .before .before .before .if1 .left))
-    (sym d ∙ c .before .before .before .if2 .left) (λ z. c .before .if3 .taken (l ∙ z)))
-    (c .refusal3 .ensures ∙ rw l)
+    does-refused zeroWord format (a .args .pitch) (a .args .px .now) (a .args .scratch .now) _ _ 0 _
+    (not-lent (a .args .old .now) (a .args .new .now) (a .pre .first) (a .pre .second) _ _ _ (sym (c .before .before .before .before .before .before .same-header .ensures) ∙ not-false _ (c .before .before .before .before .before .if1 .left))
+    (sym d ∙ c .before .before .before .if2 .left) _ (sym l) (c .before .if3 .taken))
+    (c .refusal3 .ensures)
 
 draw-in-requires : tie.Need-draw-in-requires
 draw-in-requires c κs = tt
@@ -76,9 +77,8 @@ returns-4 c =
     let number = ap (λ (r : Difference). r .number) (g .changed .ensures) in
     let area = ap (λ (r : Difference). r .area) (g .changed .ensures) in
     let z = sym (n .lent-number .ensures) ∙ d .before .before .before .if3 .left in
-    let l = lent-accepted new _ _ z in
-    drawn-does new (a .pre .second) _ (box-clip old new) (a .args .px .now) (a .args .scratch .now) (l .0) (l .1)
-    (drawn-new old new (a .pre .first) (a .pre .second) _ _ same (sym number ∙ n .before .if2 .left) z) (rw area at (d .draw-in .ensures))
+    drawn-does new (a .args .pitch) (a .pre .second) _ (box-clip old new) (a .args .px .now) (a .args .scratch .now) (lends-of format (sheetOf new) (a .args .pitch) _ _ z)
+    (drawn-new old new (a .pre .first) (a .pre .second) _ _ _ same (sym number ∙ n .before .if2 .left) z) (rw area at (d .draw-in .ensures))
 
 pub patch-read-spec : {M : Type 1} → statement M
 patch-read-spec =

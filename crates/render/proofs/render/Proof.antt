@@ -56,7 +56,7 @@ add-steps : tie.Need-add-steps Inv-loop μ-loop
 add-steps c =
     let d = c .before .before .before .before .draw-item in
     let l = c .before .before .before .before .before .before .before .before .before .before .before .before .before in
-    let most : d .result ≤ 268435456 = rw (d .ensures .counts) (item-few _ _) in
+    let most : d .result ≤ 536870912 = rw (d .ensures .counts) (item-few _ _) in
     omega (arith, most, l .loop .inv .few, l .loop .inv .within, l .before .u16-at .ensures .1)
 
 add-k : tie.Need-add-k Inv-loop μ-loop

@@ -1,7 +1,6 @@
 -- `replay::patches` meets its contract. The loop's invariant, `Running`: what is left to do, done from here, gives what doing all
 -- gives from the start. Assumes nothing.
 use Prim.Native.Nat.{_-_}
-use native.Mathlib.Omega.{arith}
 use lib.ListN.{length}
 use borrow.Author.Needs.{needs}
 use Rattle.replay.proofs.Laws.{Running, running-first, running-next, runs-end, cut-short, cut-done}
