@@ -19,7 +19,7 @@ use lib.Dec.{leb}
 use Rattle.gfx.specs.declared.Canvas.{Canvas}
 use Rattle.gfx.proofs.Fits.{canvas-fits}
 use Rattle.gfx.proofs.Valid.{side-of, valid-of}
-use Rattle.sheet.specs.Check.{widthOf, heightOf, countOf, bytesAt, sideOk, verdict, sheetCheck}
+use Rattle.sheet.specs.Check.{widthOf, heightOf, countOf, bytesAt, verdict, sheetCheck}
 use Rattle.sheet.proofs.Accepted.{accepted}
 use Rattle.items.specs.Items.{itemOf}
 use Rattle.items.specs.Format.{reachOf, needOf, kind, format, itemIn, itemsFrom, itemNeed, needs, sheetOf}
@@ -110,7 +110,6 @@ module _ (s : List ℕ) where
 
   -- the width is a pitch that is in its range
   own-rows : Read s → pitchNumber (widthOf s) (widthOf s) ≡ 0
-  unfolding sideOk
   own-rows e =
       let w = leb-true (widthOf s) 2048 (and-right (leb 1 (widthOf s)) (leb (widthOf s) 2048) (accepted s e .width)) in
       in-pitch (record { room = omega arith; most = omega (arith, w) })

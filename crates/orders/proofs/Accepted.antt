@@ -4,7 +4,7 @@ use mathlib.Core.Bool.{true, cond}
 use mathlib.Core.List.{List, [], _∷_, map}
 use mathlib.Core.Path.{_≡_, refl, ap, _∙_}
 use native.Mathlib.Omega.{arith}
-use borrow.Author.Tests.{lt-ltb, le-leb}
+use borrow.Author.Tests.{eq-eqb, lt-ltb, le-leb}
 use lib.Dec.{eqb}
 use lib.Ieee.{le, lt, eq, neg, ofBits}
 use lib.ListN.{length, length-map}
@@ -16,9 +16,10 @@ use Rattle.sheet.specs.Check.{countOf, headerOk, verdict, sheetCheck}
 use Rattle.draw.specs.Frame.{pitchOk, pitchNumber, frameNumber}
 use Rattle.redraw.specs.Sheet.{lentNumber, painting, accepted}
 use Rattle.items.specs.Items.{readItem, readPaint}
-use Rattle.items.specs.Format.{drawnAs, needOf, itemIn, itemNeed, needs, itemsFrom, format}
+use Rattle.items.specs.Format.{drawnAs, needOf, itemIn, itemNeed, needs, itemsFrom, format, sheetOf}
 use Rattle.paint.specs.Paint.{needIn}
 use Rattle.redraw.proofs.Rules.{paint-draws}
+use Rattle.items.proofs.Readings.{reads-accepted}
 use Rattle.encode.specs.Encode.{encoded}
 use Rattle.encode.proofs.Laid.{total, Sound, Laid, laid-bytes, laid-next, encoded-length, encoded-count, encoded-laid, encoded-check}
 use Rattle.orders.specs.Orders.{push, pop, fill, item, head, asSheet}

@@ -60,9 +60,9 @@ pub fn sheet_need(s: &[u8]) -> usize
 pub fn lent_number(s: &[u8], pitch: usize, n: usize, words: usize) -> u32
     ensures { λ r. ⌜ r ≡ lentNumber format (sheetOf (now (s .entry))) pitch n words ⌝ }
 {
-    let number = frame_number(u16_at(s, 0), u16_at(s, 2), pitch, n);
-    if number != 0 {
-        return number;
+    let frame = frame_number(u16_at(s, 0), u16_at(s, 2), pitch, n);
+    if frame != 0 {
+        return frame;
     }
     if words < sheet_need(s) {
         return 9;

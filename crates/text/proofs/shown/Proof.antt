@@ -13,10 +13,10 @@ u16-at-requires c κs = search needs
 
 put-picture-requires : tie.Need-put-picture-requires
 put-picture-requires c κs =
-    let taken = c .before .before .before in
+    let taken = c .before .before in
     let done = taken .before .before .before .before .before .before .before in
-    let wide = some-width _ _ _ _ _ _ (done .paint .ensures) (taken .if1 .taken) in
-    (omega (arith, c .u16-at .ensures .0, wide), omega arith)
+    let wide = some-width _ _ _ _ _ _ (rw (done .before .before .before .u16-at .ensures .0) at (done .paint .ensures)) (taken .if1 .taken) in
+    (omega (arith, done .before .before .before .u16-at .ensures .0, wide), omega arith)
 
 put-refusal-requires : tie.Need-put-refusal-requires
 put-refusal-requires c κs = search needs
@@ -32,10 +32,9 @@ same-length-3 c = search needs
 
 returns : tie.Need-returns
 returns c =
-    let read = c .before .before .before in
-    let taken = read .before .before .before in
+    let taken = c .before .before .before .before .before in
     let done = taken .before .before .before .before .before .before .before in
-    rw (picture-shown _ _ _ _ _ _ (done .paint .ensures) (taken .if1 .taken)) (rw (read .u16-at .ensures .0) at (c .before .before .put-picture .ensures))
+    rw (picture-shown _ _ _ _ _ _ (rw (done .before .before .before .u16-at .ensures .0) at (done .paint .ensures)) (taken .if1 .taken)) (rw (done .before .before .before .u16-at .ensures .0) at (c .before .before .put-picture .ensures))
 
 same-length-4 : tie.Need-same-length-4
 same-length-4 c = search needs
@@ -50,14 +49,14 @@ returns-2 : tie.Need-returns-2
 returns-2 c =
     let taken = c .before .before .before .before in
     let done = taken .before .before .before .before .before .before .before in
-    rw (refusal-shown _ _ _ _ _ _ (done .paint .ensures) (taken .if1 .left)) (c .before .before .put-refusal .ensures)
+    rw (refusal-shown _ _ _ _ _ _ (rw (done .before .before .before .u16-at .ensures .0) at (done .paint .ensures)) (taken .if1 .left)) (c .before .before .put-refusal .ensures)
 
 pub shown-spec : {M : Type 1} → statement M
 shown-spec =
     tie.close
     (tie.spec
-    paint-requires
     u16-at-requires
+    paint-requires
     put-picture-requires
     put-refusal-requires
     same-length

@@ -1,7 +1,7 @@
 -- `maldjupp::brush::kind_number` meets its contract. Assumes nothing.
 use mathlib.Core.Path.{_∙_, sym}
 use borrow.Author.Needs.{needs}
-use Rattle.gfx.proofs.Sizes.{px-refused, px-passed}
+use Rattle.geom.proofs.Refusals.{then-refused, then-passed}
 use Rattle.maldjupp.specs.Brushes.{kindNumber}
 use Rattle.maldjupp.proofs.brush.kind_number.Statement.{statement}
 use Rattle.maldjupp.proofs.brush.kind_number.Tie as tie
@@ -11,11 +11,11 @@ px-number-requires c κs = search needs
 
 returns : tie.Need-returns
 unfolding kindNumber
-returns c = px-refused _ _ _ (c .before .px-number .ensures) (c .if1 .taken)
+returns c = then-refused _ (c .before .px-number .ensures) (c .if1 .taken)
 
 returns-2 : tie.Need-returns-2
 unfolding kindNumber
-returns-2 c = px-passed _ _ _ (sym (c .before .px-number .ensures) ∙ c .if1 .left)
+returns-2 c = then-passed _ (sym (c .before .px-number .ensures) ∙ c .if1 .left)
 
 pub kind-number-spec : {M : Type 1} → statement M
 kind-number-spec = tie.close (tie.spec px-number-requires returns returns-2)

@@ -3,7 +3,7 @@ use mathlib.Core.Path.{_≡_, _∙_, sym}
 use denote.Ref.{now}
 use borrow.Author.Needs.{needs}
 use Rattle.gfx.specs.Calls.{unless}
-use Rattle.gfx.proofs.Sizes.{px-refused, px-passed}
+use Rattle.geom.proofs.Refusals.{then-refused, then-passed}
 use Rattle.maldjupp.specs.Brushes.{pointsKindNumber}
 use Rattle.maldjupp.proofs.brush.points_kind_number.Statement.{statement}
 use Rattle.maldjupp.proofs.brush.points_kind_number.Tie as tie
@@ -13,7 +13,7 @@ px-number-requires c κs = search needs
 
 returns : tie.Need-returns
 unfolding pointsKindNumber
-returns c = px-refused _ _ _ (c .before .px-number .ensures) (c .if1 .taken)
+returns c = then-refused _ (c .before .px-number .ensures) (c .if1 .taken)
 
 points-ok-requires : tie.Need-points-ok-requires
 points-ok-requires c κs = search needs
@@ -23,7 +23,7 @@ rest : (c : tie.After-points-ok) → unless (c .points-ok .result) 13 5 ≡ poin
 unfolding pointsKindNumber
 rest c =
     let d = c .before in
-    rw (c .points-ok .ensures) (px-passed _ _ _ (sym (d .before .px-number .ensures) ∙ d .if1 .left))
+    rw (c .points-ok .ensures) (then-passed _ (sym (d .before .px-number .ensures) ∙ d .if1 .left))
 
 returns-2 : tie.Need-returns-2
 returns-2 c = rw (c .if2 .taken) at (rest (c .before))
