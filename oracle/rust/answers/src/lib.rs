@@ -3,7 +3,9 @@
 pub mod branches;
 pub mod canvas;
 pub mod color;
+pub mod frame;
 pub mod geom;
+pub mod lent;
 pub mod mathf;
 pub mod paint;
 pub mod random;

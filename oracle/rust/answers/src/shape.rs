@@ -1,5 +1,6 @@
 //! The drawing methods of gfx.rs: a call with its numbers, as words and as the Rust draws it, and sequences of calls on one canvas.
 use crate::{
+    frame::{pitch_ok, Frame},
     random::Random,
     steps::{Altered, Watch},
 };
@@ -34,13 +35,13 @@ pub fn color_of(w: u32) -> Color {
 
 impl Call {
     /// The words before the coordinates, and those.
-    pub fn words(&self, canvas: &Canvas) -> Vec<u32> {
-        self.words_on([canvas.w, canvas.h], canvas.clip())
+    pub fn words(&self, canvas: &Canvas, pitch: usize) -> Vec<u32> {
+        self.words_on([canvas.w, canvas.h], pitch, canvas.clip())
     }
 
-    pub fn words_on(&self, [w, h]: [i32; 2], clip: IRect) -> Vec<u32> {
-        let mut words = vec![self.f];
-        words.extend([w, h, clip.x0, clip.y0, clip.x1, clip.y1].map(|z| z as u32));
+    pub fn words_on(&self, [w, h]: [i32; 2], pitch: usize, clip: IRect) -> Vec<u32> {
+        let mut words = vec![self.f, w as u32, h as u32, pitch as u32];
+        words.extend([clip.x0, clip.y0, clip.x1, clip.y1].map(|z| z as u32));
         words.push(self.kind);
         words.extend(self.paint.map(f32::to_bits));
         words.extend(self.colours);
@@ -120,10 +121,11 @@ impl Call {
     }
 }
 
-/// What a call is given beside its own numbers: sides and clip of the state, and the words of px and scratch.
+/// What a call is given beside its own numbers: sides, pitch and clip of the state, and the words of px and scratch.
 #[derive(Clone)]
 pub struct Given {
     pub sides: [i32; 2],
+    pub pitch: usize,
     pub clip: IRect,
     pub px: usize,
     pub scratch: usize,
@@ -150,13 +152,15 @@ impl Call {
         all
     }
 
-    /// The number of a call in document 01's order: 12, 8, 13, 6, 9.
+    /// The number of a call in the order of documents 01 and 02: 12, 15, 8, 13, 6, 9.
     pub fn number(&self, given: &Given) -> u32 {
         let ([w, h], c) = (given.sides, given.clip);
         let sides = (1..=2048).contains(&w) && (1..=2048).contains(&h);
         if !sides || !c.is_empty() && !(c.x0 >= 0 && c.y0 >= 0 && c.x1 <= w && c.y1 <= h) {
             12
-        } else if given.px != (w * h) as usize {
+        } else if !pitch_ok(w as usize, given.pitch) {
+            15
+        } else if given.px != given.pitch * h as usize {
             8
         } else if self.by_points() && (self.coords.len() % 2 == 1 || self.coords.len() > 128) {
             13
@@ -169,16 +173,18 @@ impl Call {
         }
     }
 
-    /// Makes one thing wrong that a number of document 01 names.
+    /// Makes one thing wrong that a number of documents 01 and 02 names.
     pub fn spoil(&mut self, given: &mut Given, random: &mut Random) {
         let [w, h] = given.sides;
-        match random.below(5) {
+        let last = given.pitch.saturating_sub(w as usize);
+        match random.below(6) {
             0 => match random.below(3) {
                 0 => given.sides[random.below(2) as usize] = random.of(&[0, -1, 2049, i32::MIN, i32::MAX]),
                 1 => given.clip = random.of(&[IRect::new(0, 0, w + 1, h), IRect::new(0, 0, w, h + 1)]),
                 _ => given.clip = random.of(&[IRect::new(-1, 0, w, h), IRect::new(0, -1, w, h), IRect::new(0, 0, 9, 2049)]),
             },
-            1 => given.px = random.of(&[given.px + 1, given.px.saturating_sub(1), 0]),
+            1 => given.px = random.of(&[given.px + 1, given.px.saturating_sub(1), given.px.saturating_sub(last), 0]),
+            5 => given.pitch = Frame::alone(w.clamp(1, 2048) as usize, 1).bad_pitch(random),
             2 if self.by_points() => {
                 let n = random.of(&[1, 3, 5, 11, 129, 130]);
                 self.coords.resize(n, 1.0);
@@ -277,9 +283,10 @@ fn sides(random: &mut Random) -> [i32; 2] {
     }
 }
 
-/// A canvas of random pixels on which calls follow each other, with clips pushed and popped between.
+/// A canvas of random pixels on which calls follow each other, with clips pushed and popped between; and the frame that it stands in.
 pub struct Scene {
     pub canvas: Canvas,
+    pub frame: Frame,
     pub left: u32,
     depth: u32,
 }
@@ -289,7 +296,8 @@ impl Scene {
         let [w, h] = sides(random);
         let mut canvas = Canvas::new(w, h);
         canvas.px = (0..w * h).map(|_| random.word()).collect();
-        Scene { canvas, left: 1 + random.below(8), depth: 0 }
+        let frame = Frame::around(w as usize, h as usize, random);
+        Scene { canvas, frame, left: 1 + random.below(8), depth: 0 }
     }
 
     /// Pushes, pops or keeps the clip, and answers the next call.

@@ -48,7 +48,7 @@ fn converted<T: Default + Clone>(name: &str, target: &str, xs: &[f32], rattle: f
 fn drawn(name: &str, target: &str, calls: &[Call]) {
     let mut canvas = Canvas::new(640, 400);
     let mut px = canvas.px.clone();
-    let words: Vec<Vec<u8>> = calls.iter().map(|call| native::bytes(&call.words(&canvas))).collect();
+    let words: Vec<Vec<u8>> = calls.iter().map(|call| native::bytes(&call.words(&canvas, canvas.w as usize))).collect();
     let mut scratch = vec![0.0; calls.iter().map(Call::need).max().unwrap_or(0)];
     let (mut ours, mut theirs) = (Best(f64::MAX), Best(f64::MAX));
     for _ in 0..ROUNDS / 5 {

@@ -2,8 +2,12 @@
 //! the ten million; `short` takes some hundred thousand; `shapes` takes the shapes alone. Exit status 1 where any answer differs.
 use answers::{
     branches::{self, Taken},
-    canvas::{Walk, WIDTH},
-    color, geom, mathf, paint, pattern,
+    canvas::{Returned, Walk, WIDTH},
+    color,
+    frame::{self, Frames},
+    geom,
+    lent::{bytes, Lent},
+    mathf, paint, pattern,
     random::{Random, SEED},
     shape::{self, Call, Given, Scene},
 };
@@ -17,6 +21,7 @@ struct Run {
     whole: bool,
     cases: u64,
     steps: u64,
+    frames: String,
     differ: u64,
 }
 
@@ -176,10 +181,19 @@ fn geom_cases(run: &mut Run, random: &mut Random) {
     }
 }
 
-/// A walk from state to state.
+/// A walk from state to state, in which each call returns each number that it can.
 fn canvas_cases(run: &mut Run, random: &mut Random) {
-    let mut walk = Walk::new(Random(random.next()), 4, 4);
-    run.stored("canvas calls", 3, WIDTH, || walk.step());
+    let mut walk = Walk::new(Random(random.next()), 4, 4, 4);
+    let mut returned = Returned::default();
+    run.stored("canvas calls", 3, WIDTH, || {
+        let case = walk.step();
+        returned.add(&case);
+        case
+    });
+    returned.check();
+    for number in [0, 2, 6, 7, 8, 12, 15].into_iter().filter(|_| run.whole) {
+        println!("canvas calls: number {number:>2} {:>9} times", returned.of(number));
+    }
 }
 
 /// A float of a paint or a distance: any pattern, or a place on a canvas.
@@ -207,7 +221,7 @@ fn paint_cases(run: &mut Run, random: &mut Random) {
     }
 }
 
-/// Draws a call on pixels and dirty scratch; whether pixels, number, steps and every scratch word are as they must be.
+/// Draws a call on px and dirty scratch; whether px, number, steps and every scratch word are as they must be.
 fn same_shape(words: &[u32], need: usize, px: &mut [u32], after: &[u32], steps: u64, random: &mut Random) -> bool {
     let mut scratch = vec![f32::NAN; need + random.below(5) as usize];
     let drawn = native::shape(&native::bytes(words), px, &mut scratch);
@@ -217,40 +231,58 @@ fn same_shape(words: &[u32], need: usize, px: &mut [u32], after: &[u32], steps: 
 }
 
 /// A call with one thing wrong, or two: whether it is refused by its number and alters nothing. None where it is not refused.
-fn same_refusal(mut call: Call, canvas: &Canvas, random: &mut Random) -> Option<(u32, bool)> {
-    let mut given = Given { sides: [canvas.w, canvas.h], clip: canvas.clip(), px: canvas.px.len(), scratch: call.need() };
+fn same_refusal(mut call: Call, scene: &Scene, random: &mut Random) -> Option<(u32, bool)> {
+    let (canvas, frame) = (&scene.canvas, scene.frame);
+    let (sides, clip) = ([canvas.w, canvas.h], canvas.clip());
+    let mut given = Given { sides, pitch: frame.pitch, clip, px: frame.words(), scratch: call.need() };
     (0..1 + random.below(2)).for_each(|_| call.spoil(&mut given, random));
     let number = call.number(&given);
     if number == 0 {
         return None;
     }
-    let before: Vec<u32> = (0..given.px).map(|_| random.word()).collect();
+    let before = frame::steps(given.px, random.word(), random.word());
     let (mut px, mut scratch) = (before.clone(), vec![f32::NAN; given.scratch]);
-    let said = native::shape(&native::bytes(&call.words_on(given.sides, given.clip)), &mut px, &mut scratch);
+    let words = call.words_on(given.sides, given.pitch, given.clip);
+    let said = native::shape(&native::bytes(&words), &mut px, &mut scratch);
     let kept = scratch.iter().all(|x| x.to_bits() == f32::NAN.to_bits());
     Some((number, said == Drawn { number, steps: 0 } && px == before && kept))
 }
 
+/// Px of a scene: lent to the proved functions, and as they must be.
+struct Px {
+    lent: Lent,
+    whole: Vec<u32>,
+}
+
+impl Px {
+    /// The canvas of a scene in its frame, ending at a page that cannot be touched, or, one time in four, beginning at one.
+    fn begin(&mut self, scene: &Scene, random: &mut Random) {
+        self.whole = scene.frame.laid(&scene.canvas.px, random);
+        self.lent.lend(bytes(&self.whole), random.below(4) == 0);
+    }
+}
+
 /// What a run has seen of shapes: by the shape, calls and those that differ; by the number, refusals, and those that differ; branches taken;
-/// the steps that altered a pixel's value, and the chains that altered one at two steps or more.
+/// frames; the steps that altered a pixel's value, and the chains that altered one at two steps or more.
 #[derive(Default)]
 struct Seen {
     ran: [u64; shape::NAMES.len()],
     differ: [u64; shape::NAMES.len()],
-    refused: [u64; 14],
+    refused: [u64; 16],
     wrong: u64,
     taken: Taken,
+    frames: Frames,
     steps: u64,
     twice: u64,
 }
 
 impl Seen {
-    /// One call on the canvas of a scene and on pixels that are the same; at times refused ones before it.
-    fn call(&mut self, scene: &mut Scene, px: &mut [u32], random: &mut Random) {
+    /// One call on the canvas of a scene and on px in which its rows stand; at times refused ones before it.
+    fn call(&mut self, scene: &mut Scene, px: &mut Px, random: &mut Random) {
         let call = scene.next(random);
-        let (words, f) = (call.words(&scene.canvas), call.f as usize - 1);
+        let (words, f) = (call.words(&scene.canvas, scene.frame.pitch), call.f as usize - 1);
         if random.below(8) == 0 {
-            if let Some((number, same)) = same_refusal(call.clone(), &scene.canvas, random) {
+            if let Some((number, same)) = same_refusal(call.clone(), scene, random) {
                 self.refused[number as usize] += 1;
                 self.wrong += !same as u64;
             }
@@ -260,21 +292,25 @@ impl Seen {
         self.steps += altered.steps;
         self.twice += altered.twice() as u64;
         self.ran[f] += 1;
-        if !same_shape(&words, call.need(), px, &scene.canvas.px, altered.steps, random) {
+        self.frames.add(&scene.frame);
+        scene.frame.lay(&scene.canvas.px, &mut px.whole);
+        let same = same_shape(&words, call.need(), px.lent.words(), &px.whole, altered.steps, random);
+        if !same || !px.lent.back().1 {
             self.differ[f] += 1;
             if self.differ[f] <= 3 {
                 println!("{} differs: {words:08x?}", shape::NAMES[f]);
             }
-            px.copy_from_slice(&scene.canvas.px);
+            px.lent.lend(bytes(&px.whole), false);
         }
     }
 
-    /// Adds to a run what was seen, and holds it to have seen every number, every branch, and a chain that was counted twice at a pixel.
+    /// Adds to a run what was seen, and holds it to have seen every number, every branch, every sort of pitch, and a chain that was counted
+    /// twice at a pixel.
     fn report(&self, run: &mut Run, began: Instant) {
         for (f, name) in shape::NAMES.iter().enumerate() {
             run.report(name, self.ran[f], self.differ[f], began);
         }
-        for number in [6, 8, 9, 12, 13] {
+        for number in [6, 8, 9, 12, 13, 15] {
             assert!(self.refused[number] > 0, "no call was refused by {number}");
             if run.whole {
                 println!("refused by {number:<17} {:>11} times", self.refused[number]);
@@ -287,16 +323,19 @@ impl Seen {
             }
             assert!(times > 0, "no call took the branch {name}");
         }
+        assert!(!self.frames.lack(run.whole), "too few sorts of frames");
         run.steps += self.steps;
+        run.frames = self.frames.told();
     }
 }
 
-/// Sequences of shapes on one canvas, every pixel compared after each call, and its steps.
+/// Sequences of shapes on one canvas, every word of px compared after each call, and its steps.
 fn shapes(run: &mut Run, random: &mut Random, calls: u64) {
     let (began, mut seen) = (Instant::now(), Seen::default());
+    let mut px = Px { lent: Lent::new(4 * frame::SELDOM), whole: vec![] };
     while seen.ran.iter().sum::<u64>() < calls {
         let mut scene = Scene::new(random);
-        let mut px = scene.canvas.px.clone();
+        px.begin(&scene, random);
         while scene.left > 0 {
             seen.call(&mut scene, &mut px, random);
         }
@@ -321,7 +360,8 @@ fn levels(run: &mut Run, random: &mut Random) {
             let level = if i < 96 { (kash::fraction(i) * alpha as f32 + 0.5) as u32 } else { 0 };
             assert_eq!(*p, level * 0x01_0101, "level {i} of alpha {alpha}");
         }
-        differ += !same_shape(&call.words(&canvas), 0, &mut px, &canvas.px, steps, random) as u64;
+        let words = call.words(&canvas, canvas.w as usize);
+        differ += !same_shape(&words, 0, &mut px, &canvas.px, steps, random) as u64;
     }
     run.report("shadow's levels", 256, differ, began);
 }
@@ -333,7 +373,7 @@ fn main() {
         Some("short") => (false, true, 60_000),
         _ => panic!("usage: compare whole|shapes|short"),
     };
-    let mut run = Run { whole, cases: 0, steps: 0, differ: 0 };
+    let mut run = Run { whole, cases: 0, steps: 0, frames: String::new(), differ: 0 };
     let mut random = Random(SEED + 3);
     if leaves {
         one_float(&mut run);
@@ -346,7 +386,8 @@ fn main() {
     }
     shapes(&mut run, &mut random, calls);
     levels(&mut run, &mut random);
-    println!("comparison with the Rust: {} cases, {} steps of shapes, {} differences", run.cases, run.steps, run.differ);
+    let shapes = format!("{} steps of shapes, {}", run.steps, run.frames);
+    println!("comparison with the Rust: {} cases, {shapes}, {} differences", run.cases, run.differ);
     if run.differ > 0 {
         exit(1);
     }

@@ -53,6 +53,14 @@ impl Lent {
         unsafe { self.first.add(from) }
     }
 
+    /// The lent bytes as words.
+    pub fn words(&mut self) -> &mut [u32] {
+        let (from, to) = self.placed;
+        let bytes = self.part(from, to);
+        assert_eq!((bytes.len() % 4, bytes.as_ptr().align_offset(4)), (0, 0));
+        unsafe { std::slice::from_raw_parts_mut(bytes.as_mut_ptr() as *mut u32, bytes.len() / 4) }
+    }
+
     /// What stands in the lent bytes, and whether nothing beside them was written.
     pub fn back(&mut self) -> (&[u8], bool) {
         let beside = self.margin().iter().all(|b| *b == MARK);
