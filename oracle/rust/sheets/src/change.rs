@@ -10,10 +10,10 @@ use answers::random::Random;
 use kash::geom::IRect;
 
 /// The ways, in the order of `WAYS`.
-pub const WAYS: [&str; 18] = [
+pub const WAYS: [&str; 19] = [
     "moved", "recoloured", "resized", "a bit altered", "another shape", "a chain grown", "no difference", "several shapes",
     "shapes swapped", "several and a clip", "header", "a clip", "count", "damaged new sheet", "px length", "scratch length",
-    "damaged old sheet", "another old sheet",
+    "another pitch", "damaged old sheet", "another old sheet",
 ];
 const MOVED: usize = 0;
 const RECOLOURED: usize = 1;
@@ -33,9 +33,11 @@ const COUNT: usize = 12;
 pub const DAMAGED_NEW: usize = 13;
 pub const PX: usize = 14;
 pub const SCRATCH: usize = 15;
+/// The pitch is another than that of the painting.
+pub const PITCH: usize = 16;
 /// From here on the old sheet is not the kept one, so the call is none of the list's.
-pub const APART: usize = 16;
-pub const DAMAGED_OLD: usize = 16;
+pub const APART: usize = 17;
+pub const DAMAGED_OLD: usize = 17;
 
 /// What a shape among several is altered by.
 const EACH: [usize; 5] = [MOVED, RECOLOURED, RESIZED, ANOTHER, GROWN];

@@ -1,18 +1,25 @@
-//! The sheets and patches that document 01 gives as examples, the largest of their kinds, and the edges of requests 2026-01 and 2026-04.
+//! The sheets and patches that document 01 gives as examples, the largest of their kinds, and the edges of requests 2026-01, 2026-04 and
+//! 2026-07.
 use crate::{
-    fixed_ceilings, fixed_chains, fixed_counts,
+    fixed_ceilings, fixed_chains, fixed_counts, fixed_frames, half,
     make::{bytes, pop},
     Made, LONGEST,
 };
 
-/// A painting: sheet, px and scratch words lent, and the number and item that document 01 gives.
+/// A painting: sheet, pitch, px and scratch words lent, and the number and item that the documents give.
 pub struct Painting {
     pub name: &'static str,
     pub sheet: Vec<u8>,
+    pub pitch: usize,
     pub px: usize,
     pub scratch: usize,
     pub number: u32,
     pub item: u32,
+}
+
+/// The width that the bytes of a sheet say: the pitch of a canvas alone.
+pub fn width(sheet: &[u8]) -> usize {
+    if sheet.len() < 2 { 0 } else { half(sheet, 0) }
 }
 
 fn solid(rgba: [u8; 4]) -> Vec<u8> {
@@ -53,9 +60,12 @@ pub fn square() -> Vec<u8> {
     polygon(&[0.0, 0.0, 2.0, 0.0, 2.0, 2.0, 0.0, 2.0], RED)
 }
 
-pub fn paintings() -> Vec<Painting> {
+/// Canvases alone: each pitch is the width.
+pub fn alone() -> Vec<Painting> {
     let mut all = vec![];
-    let mut add = |name, sheet: Vec<u8>, px, scratch, number, item| all.push(Painting { name, sheet, px, scratch, number, item });
+    let mut add = |name, sheet: Vec<u8>, px, scratch, number, item| {
+        all.push(Painting { name, pitch: width(&sheet), sheet, px, scratch, number, item });
+    };
     let white = [255; 4];
     add("red", red(0.0), 4, 0, 0, 0);
     add("half_covered", made(2, 1, vec![fill(0.5, 0.0, 1.0, 1.0, white)]).bytes(), 2, 0, 0, 0);
@@ -96,10 +106,15 @@ pub fn paintings() -> Vec<Painting> {
     all
 }
 
-/// A patch: old and new sheet, px and scratch words lent, number, item and box.
+pub fn paintings() -> Vec<Painting> {
+    alone().into_iter().chain(fixed_frames::paintings()).collect()
+}
+
+/// A patch: old and new sheet, pitch, px and scratch words lent, number, item and box.
 pub struct Patch {
     pub old: Vec<u8>,
     pub new: Vec<u8>,
+    pub pitch: usize,
     pub px: usize,
     pub scratch: usize,
     pub number: u32,
@@ -109,7 +124,9 @@ pub struct Patch {
 
 pub fn patches() -> Vec<Patch> {
     let mut all = vec![];
-    let mut add = |old: Vec<u8>, new: Vec<u8>, px, scratch, number, item, area| all.push(Patch { old, new, px, scratch, number, item, area });
+    let mut add = |old: Vec<u8>, new: Vec<u8>, px, scratch, number, item, area| {
+        all.push(Patch { pitch: width(&new), old, new, px, scratch, number, item, area });
+    };
     let two = |a: f32, b: f32| made(4, 1, vec![fill(a, 0.0, 1.0, 1.0, RED), fill(b, 0.0, 1.0, 1.0, RED)]).bytes();
     let clipped = |x: f32| made(4, 1, vec![push(x, 0.0, 2.0, 1.0), fill(0.0, 0.0, 4.0, 1.0, RED)]).bytes();
     let squared = |x: f32| made(4, 4, vec![square(), fill(x, 0.0, 1.0, 1.0, RED)]).bytes();
@@ -149,29 +166,31 @@ pub fn patches() -> Vec<Patch> {
     let triangle = |x: f32| made(4, 4, vec![polygon(&[-1994.0, 1.0, x, 1.0, x, 1999.0], RED)]).bytes();
     add(triangle(4.5), triangle(5.0), 16, 0, 0, 0, [0; 4]);
     all.extend(fixed_chains::patches());
+    all.extend(fixed_frames::patches());
     all
 }
 
 /// Holds the reading to document 01's examples before anything is compared with it.
 pub fn check() {
     for p in paintings() {
-        let e = crate::paint(&p.sheet, p.px, p.scratch);
+        let e = crate::paint(&p.sheet, p.pitch, p.px, p.scratch);
         assert_eq!((e.number, e.item), (p.number, p.item), "{}", p.name);
     }
     for (i, p) in patches().iter().enumerate() {
-        let e = crate::patch(&p.old, &p.new, p.px, p.scratch);
+        let e = crate::patch(&p.old, &p.new, p.pitch, p.px, p.scratch);
         assert_eq!((e.number, e.item, [e.area.x0, e.area.y0, e.area.x1, e.area.y1]), (p.number, p.item, p.area), "patch {i}");
     }
     assert_eq!(painted(&paintings()[0]), [0x00ff_0000, 0, 0, 0]);
     assert_eq!(painted(&paintings()[1]), [0x0080_8080; 2]);
-    let patched = crate::patch(&red(0.0), &red(2.0), 4, 0).on(&[0x00ff_0000, 0, 0, 0]);
+    let patched = crate::patch(&red(0.0), &red(2.0), 4, 4, 0).on(&[0x00ff_0000, 0, 0, 0]);
     assert_eq!(patched.px, [0, 0, 0x00ff_0000, 0]);
     fixed_chains::check();
     fixed_counts::check();
     fixed_ceilings::check();
+    fixed_frames::check();
 }
 
 /// The pixels that a painting leaves, all bits set before it.
 pub fn painted(p: &Painting) -> Vec<u32> {
-    crate::paint(&p.sheet, p.px, p.scratch).on(&vec![0xffff_ffff; p.px]).px
+    crate::paint(&p.sheet, p.pitch, p.px, p.scratch).on(&vec![0xffff_ffff; p.px]).px
 }

@@ -14,7 +14,7 @@ const GREEN: [u8; 4] = [0, 255, 0, 255];
 fn patch(name: &'static str, [w, h]: [u16; 2], items: [Vec<Vec<u8>>; 2], steps: u64, [meeting, area]: [u64; 2]) -> Count {
     let [old, new] = items.map(|items| made(w, h, items).bytes());
     let before = vec![7; w as usize * h as usize];
-    Count { name, old: Some(old), new, before, steps, grounded: area, ceiling: Some(Ceiling { meeting, area }) }
+    Count { name, old: Some(old), new, pitch: w as usize, before, steps, grounded: area, ceiling: Some(Ceiling { meeting, area }) }
 }
 
 /// Patches of fills; mostly the last one gets another colour, so that the box is its reach.
@@ -81,7 +81,7 @@ pub fn patches() -> Vec<Count> {
 pub fn check() {
     for count in counts() {
         let Some(ceiling) = count.ceiling else { continue };
-        let answer = called(count.old.as_deref(), &count.new, count.before.len(), 0).on(&count.before).answer;
+        let answer = called(count.old.as_deref(), &count.new, count.pitch, count.before.len(), 0).on(&count.before).answer;
         let sheet = Sheet::read(&count.new).expect("a sound sheet");
         assert_eq!(Ceiling::of(&sheet, answer.reported()), ceiling, "{}", count.name);
         assert_eq!(ceiling.fault(&answer), None, "{}", count.name);

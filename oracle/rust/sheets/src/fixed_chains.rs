@@ -23,7 +23,8 @@ pub fn rows(m: usize) -> Vec<f32> {
 pub fn paintings() -> Vec<Painting> {
     let mut all = vec![];
     let mut add = |name, w: u16, h: u16, items: Vec<Vec<u8>>, number, item| {
-        all.push(Painting { name, sheet: made(w, h, items).bytes(), px: w as usize * h as usize, scratch: 0, number, item });
+        let (sheet, pitch, px) = (made(w, h, items).bytes(), w as usize, w as usize * h as usize);
+        all.push(Painting { name, sheet, pitch, px, scratch: 0, number, item });
     };
     let half = |points: &[f32], width: f32| chain(points, width, HALF);
     add("chain_0", 4, 1, vec![half(&[], 1.0)], 0, 0);
@@ -58,7 +59,7 @@ pub fn patches() -> Vec<Patch> {
     let mut all = vec![];
     let mut add = |old: Vec<u8>, new: Vec<u8>, area| {
         let [old, new] = [old, new].map(|item| made(8, 8, vec![item]).bytes());
-        all.push(Patch { old, new, px: 64, scratch: 0, number: 0, item: 0, area });
+        all.push(Patch { old, new, pitch: 8, px: 64, scratch: 0, number: 0, item: 0, area });
     };
     // Two lines reach 0,0,5,3 and 2,0,5,6; the third, 2,3,8,6. At width 3 the first two reach -1,-1,6,4 and 1,-1,6,7.
     let (two, three) = ([1.5, 1.5, 3.5, 1.5, 3.5, 4.5], [1.5, 1.5, 3.5, 1.5, 3.5, 4.5, 6.5, 4.5]);
@@ -96,7 +97,7 @@ pub fn patches() -> Vec<Patch> {
 /// Patches with an item beside the chain: that it stands at another offset does not count; a refusal names the chain.
 fn beside() -> Vec<Patch> {
     let both = |points: &[f32]| made(8, 8, vec![chain(points, 1.0, RED), fill(6.0, 6.0, 1.0, 1.0, RED)]).bytes();
-    let patch = |old, new, number, item, area| Patch { old, new, px: 64, scratch: 0, number, item, area };
+    let patch = |old, new, number, item, area| Patch { old, new, pitch: 8, px: 64, scratch: 0, number, item, area };
     let (one, two) = ([1.5, 1.5, 2.5, 1.5], [1.5, 1.5, 2.5, 1.5, 2.5, 3.5]);
     vec![
         patch(both(&one), both(&two), 0, 0, [0, 0, 4, 5]),

@@ -1,17 +1,20 @@
 //! Edges of change request 2026-05: what calls count, worked out by hand from its words; of patches also the ceiling of 2026-06.
 use crate::{
     called,
-    fixed::{fill, made, push, red, with, RED},
+    fixed::{fill, made, push, red, width, with, RED},
     fixed_ceilings,
     fixed_chains::{chain, rows, HALF, ONCE},
+    fixed_frames,
     Ceiling, MOST_SIDE,
 };
 
-/// A painting, or a patch where there is an old sheet, on pixels and without scratch; what it counts, and the ceiling of an accepted patch.
+/// A painting, or a patch where there is an old sheet, on px in rows of so many words and without scratch; what it counts, and the ceiling of
+/// an accepted patch.
 pub struct Count {
     pub name: &'static str,
     pub old: Option<Vec<u8>>,
     pub new: Vec<u8>,
+    pub pitch: usize,
     pub before: Vec<u32>,
     pub steps: u64,
     pub grounded: u64,
@@ -34,7 +37,7 @@ fn whole(rgba: [u8; 4]) -> Vec<u8> {
 fn paintings() -> Vec<Count> {
     let mut all = vec![];
     let mut add = |name, new: Vec<u8>, before: &[u32], steps, grounded| {
-        all.push(Count { name, old: None, new, before: before.to_vec(), steps, grounded, ceiling: None });
+        all.push(Count { name, old: None, pitch: width(&new), new, before: before.to_vec(), steps, grounded, ceiling: None });
     };
     // The ground alters every pixel that was not black with a high byte of 0; then the fill alters the first.
     add("red", red(0.0), &[0xffff_ffff; 4], 1, 4);
@@ -73,7 +76,7 @@ fn patches() -> Vec<Count> {
     let mut all = vec![];
     let mut add = |name, old: Vec<u8>, new: Vec<u8>, before: [u32; 4], steps, grounded, [meeting, area]: [u64; 2]| {
         let ceiling = Some(Ceiling { meeting, area });
-        all.push(Count { name, old: Some(old), new, before: before.to_vec(), steps, grounded, ceiling });
+        all.push(Count { name, old: Some(old), new, pitch: 4, before: before.to_vec(), steps, grounded, ceiling });
     };
     // Of columns 0 to 2 the ground alters the first, the fill the last.
     add("red_moved", red(0.0), red(2.0), [RED_PIXEL, 0, 0, 0], 1, 1, [1, 3]);
@@ -94,12 +97,12 @@ fn patches() -> Vec<Count> {
     add("trace_grown", trace(&points[..4]), trace(&points), [ONCE, ONCE, 0, 0], 2 + 3, 2, [2, 4]);
     // Refused by 10: the ground is another.
     let (old, new) = (Some(red(0.0)), with(red(0.0), 4, 1));
-    all.push(Count { name: "refused", old, new, before: vec![RED_PIXEL, 0, 0, 0], steps: 0, grounded: 0, ceiling: None });
+    all.push(Count { name: "refused", old, new, pitch: 4, before: vec![RED_PIXEL, 0, 0, 0], steps: 0, grounded: 0, ceiling: None });
     all
 }
 
 pub fn counts() -> Vec<Count> {
-    [paintings(), patches(), fixed_ceilings::patches()].into_iter().flatten().collect()
+    [paintings(), patches(), fixed_ceilings::patches(), fixed_frames::counts()].into_iter().flatten().collect()
 }
 
 /// On the largest canvas 1,020 fills, red and white in turn, and after every 255th a chain of three lines that are wider than the canvas: each
@@ -120,7 +123,7 @@ const _: () = assert!(BUSIEST > 1 << 32);
 /// Holds the counting to these numbers before anything is compared with it.
 pub fn check() {
     for count in counts() {
-        let answer = called(count.old.as_deref(), &count.new, count.before.len(), 0).on(&count.before).answer;
+        let answer = called(count.old.as_deref(), &count.new, count.pitch, count.before.len(), 0).on(&count.before).answer;
         assert_eq!((answer.steps, answer.grounded), (count.steps, count.grounded), "{}", count.name);
     }
 }

@@ -1,6 +1,6 @@
 //! The edges of change request 2026-03: sheets, and what measuring each gives, worked out by hand from its words.
 use crate::{
-    fixed::{fill, made, paintings, polygon, push, square, with, RED},
+    fixed::{alone, fill, made, polygon, push, square, with, RED},
     fixed_chains::{chain, rows},
     make::{bytes, pop},
     measure, Room, MOST_ITEMS, MOST_SIDE,
@@ -178,7 +178,7 @@ fn refused_late() -> Vec<Measured> {
 
 /// Every sheet of `fixed` that its own checks refuse.
 fn refused_paintings() -> Vec<Measured> {
-    let own = paintings().into_iter().filter(|p| ![0, 8, 9].contains(&p.number));
+    let own = alone().into_iter().filter(|p| ![0, 8, 9].contains(&p.number));
     own.map(|p| refused(p.name, p.sheet, p.number, p.item)).collect()
 }
 

@@ -8,6 +8,7 @@ pub mod fixed;
 pub mod fixed_ceilings;
 pub mod fixed_chains;
 pub mod fixed_counts;
+pub mod fixed_frames;
 pub mod fixed_rooms;
 pub mod item;
 pub mod make;

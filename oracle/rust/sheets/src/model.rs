@@ -1,9 +1,10 @@
 //! What painting, patching and measuring answer, and what the first two leave of scratch and pixels, by document 01 and requests 2026-01,
-//! 2026-03 and 2026-05.
+//! 2026-03, 2026-05 and 2026-07.
 use crate::{
     item::{around, EMPTY},
     Counted, Fault, Sheet, MOST_CHANGES,
 };
+use answers::frame::{pitch_ok, Frame};
 use kash::geom::IRect;
 
 /// What a sheet call returns, as the library returns it: number, item and box; the steps of shapes that altered a pixel's value, and the
@@ -34,25 +35,33 @@ impl Answer {
 }
 
 /// What a call must do, whatever the pixels before it are: its number, item and box, how many of the first scratch words it leaves +0, and
-/// the sheet that it paints if it is accepted.
+/// the sheet that it paints if it is accepted, in rows of so many words.
 pub struct Expected {
     pub number: u32,
     pub item: u32,
     pub area: IRect,
     pub swept: usize,
     pub sheet: Option<Sheet>,
+    pub pitch: usize,
 }
 
-/// What a call must return and leave: pixels, and how many of the first scratch words are +0.
+/// What a call must return and leave: px, and how many of the first scratch words are +0; and where the canvas lies in px, if the call is
+/// accepted.
 pub struct After {
     pub answer: Answer,
     pub px: Vec<u32>,
     pub swept: usize,
+    pub frame: Option<Frame>,
 }
 
 impl Expected {
     fn refused(Fault { number, item }: Fault) -> Expected {
-        Expected { number, item, area: EMPTY, swept: 0, sheet: None }
+        Expected { number, item, area: EMPTY, swept: 0, sheet: None, pitch: 0 }
+    }
+
+    /// Where the canvas lies in px, if the call is accepted.
+    pub fn frame(&self) -> Option<Frame> {
+        self.sheet.as_ref().map(|sheet| Frame { w: sheet.w, h: sheet.h, pitch: self.pitch })
     }
 
     /// A fresh painting counted inside the box, where the call is accepted.
@@ -60,7 +69,7 @@ impl Expected {
         self.sheet.as_ref().map(|sheet| sheet.counted(self.area))
     }
 
-    /// What the call returns and leaves on pixels, where its fresh painting is known: within the box the pixels of that, the others as they
+    /// What the call returns and leaves in px, where its fresh painting is known: within the box the pixels of that, all other words as they
     /// came. The ground alters a pixel of the box where its value was another than the ground's.
     pub fn after(&self, before: &[u32], counted: Option<&Counted>) -> After {
         let (IRect { x0, y0, x1, y1 }, mut px) = (self.area, before.to_vec());
@@ -68,13 +77,14 @@ impl Expected {
         if let (Some(sheet), Some(fresh)) = (&self.sheet, counted) {
             answer.steps = fresh.steps;
             let ground = sheet.ground().pix();
-            for row in (y0 as usize..y1 as usize).map(|y| y * sheet.w) {
-                let places = row + x0 as usize..row + x1 as usize;
-                answer.grounded += px[places.clone()].iter().filter(|p| **p != ground).count() as u64;
-                px[places.clone()].copy_from_slice(&fresh.px[places]);
+            let columns = |row: usize| row + x0 as usize..row + x1 as usize;
+            for y in y0 as usize..y1 as usize {
+                let row = &mut px[columns(y * self.pitch)];
+                answer.grounded += row.iter().filter(|p| **p != ground).count() as u64;
+                row.copy_from_slice(&fresh.px[columns(y * sheet.w)]);
             }
         }
-        After { answer, px, swept: self.swept }
+        After { answer, px, swept: self.swept, frame: self.frame() }
     }
 
     /// The same, where the fresh painting serves for this alone.
@@ -83,25 +93,28 @@ impl Expected {
     }
 }
 
-/// Numbers 8 and 9 of a sheet, then the acceptance with a box.
-fn lent(sheet: Sheet, area: IRect, px: usize, scratch: usize) -> Expected {
+/// Numbers 15, 8 and 9 of a sheet, then the acceptance with a box.
+fn lent(sheet: Sheet, area: IRect, pitch: usize, px: usize, scratch: usize) -> Expected {
     let need = sheet.need();
-    if px != sheet.w * sheet.h {
+    if !pitch_ok(sheet.w, pitch) {
+        return Expected::refused(Fault { number: 15, item: 0 });
+    }
+    if px != pitch * sheet.h {
         return Expected::refused(Fault { number: 8, item: 0 });
     }
     if scratch < need {
         return Expected::refused(Fault { number: 9, item: 0 });
     }
-    Expected { number: 0, item: 0, area, swept: need, sheet: Some(sheet) }
+    Expected { number: 0, item: 0, area, swept: need, sheet: Some(sheet), pitch }
 }
 
-/// Painting a sheet with so many words of px and scratch.
-pub fn paint(bytes: &[u8], px: usize, scratch: usize) -> Expected {
+/// Painting a sheet in rows of so many words, with so many words of px and scratch.
+pub fn paint(bytes: &[u8], pitch: usize, px: usize, scratch: usize) -> Expected {
     match Sheet::read(bytes) {
         Err(fault) => Expected::refused(fault),
         Ok(sheet) => {
             let canvas = sheet.canvas();
-            lent(sheet, canvas, px, scratch)
+            lent(sheet, canvas, pitch, px, scratch)
         }
     }
 }
@@ -145,21 +158,21 @@ fn differing(old: &Sheet, new: &Sheet) -> Result<IRect, u32> {
 }
 
 /// Patching from an old sheet to a new one.
-pub fn patch(old: &[u8], new: &[u8], px: usize, scratch: usize) -> Expected {
+pub fn patch(old: &[u8], new: &[u8], pitch: usize, px: usize, scratch: usize) -> Expected {
     let sheets = Sheet::read(old).and_then(|old| Ok((old, Sheet::read(new)?)));
     match sheets {
         Err(fault) => Expected::refused(fault),
         Ok((old, new)) => match differing(&old, &new) {
             Err(number) => Expected::refused(Fault { number, item: 0 }),
-            Ok(area) => lent(new, area, px, scratch),
+            Ok(area) => lent(new, area, pitch, px, scratch),
         },
     }
 }
 
 /// Painting a sheet, or patching to it where there is an old one.
-pub fn called(old: Option<&[u8]>, new: &[u8], px: usize, scratch: usize) -> Expected {
+pub fn called(old: Option<&[u8]>, new: &[u8], pitch: usize, px: usize, scratch: usize) -> Expected {
     match old {
-        None => paint(new, px, scratch),
-        Some(old) => patch(old, new, px, scratch),
+        None => paint(new, pitch, px, scratch),
+        Some(old) => patch(old, new, pitch, px, scratch),
     }
 }

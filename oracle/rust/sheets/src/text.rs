@@ -1,5 +1,5 @@
 //! What the program `paintsheet` prints for the bytes that it reads, by document 01.
-use crate::{half, paint};
+use crate::{fixed::width, half, paint};
 
 /// The words of px, and of scratch, that it has at hand.
 pub const AT_HAND: usize = 16_384;
@@ -7,7 +7,7 @@ pub const AT_HAND: usize = 16_384;
 /// Rows of pixels as 8 upper-case hexadecimal digits, or the number and item of a refusal. `room` is the most pixels and scratch words.
 pub fn text(bytes: &[u8], room: usize) -> String {
     let area = if bytes.len() < 12 { 0 } else { half(bytes, 0) * half(bytes, 2) };
-    let expected = paint(bytes, area.min(room), room);
+    let expected = paint(bytes, width(bytes), area.min(room), room);
     let Some(sheet) = &expected.sheet else {
         return format!("refused {} at {}\n", expected.number, expected.item);
     };
