@@ -1,23 +1,53 @@
-//! The sheet calls, measuring and the call of the clip orders of the crate `maldjupp`, on lent memory. A slice passes as a pointer and a
-//! length.
+//! The sheet calls, measuring and the call of the clip orders of the crate `maldjupp`, on lent memory, and `clear` for its speed. A slice
+//! passes as a pointer and a length.
 pub mod ceilings;
-pub mod lent;
 pub mod rooms;
 
-use answers::random::Random;
-use lent::{bytes, Lent};
+use answers::{
+    frame::{Frame, Frames},
+    lent::{bytes, Lent},
+    random::Random,
+};
 use sheets::{orders::Written, After, Answer, Room};
 
 /// The functions as they are exported.
 pub mod raw {
     use sheets::{orders::Written, Answer, Room};
+
+    /// The state of a canvas: sides, pitch, clip and saved clips, of which `depth` are in use.
+    #[repr(C)]
+    #[derive(Clone, Copy, Debug, PartialEq)]
+    pub struct State {
+        pub w: i32,
+        pub h: i32,
+        pub pitch: usize,
+        pub clip: [i32; 4],
+        pub saved: [[i32; 4]; 16],
+        pub depth: usize,
+    }
+
+    /// What a canvas call returns.
+    #[repr(C)]
+    #[derive(Clone, Copy, Debug, PartialEq)]
+    pub struct Done {
+        pub number: u32,
+        pub state: State,
+    }
+
+    #[repr(C)]
+    #[derive(Clone, Copy)]
+    pub struct Ink {
+        pub rgba: [u8; 4],
+    }
+
     extern "C" {
-        pub fn maldjupp_paint(sheet: *const u8, n: usize, px: *mut u32, m: usize, scratch: *mut f32, k: usize) -> Answer;
+        pub fn maldjupp_paint(sheet: *const u8, n: usize, pitch: usize, px: *mut u32, m: usize, scratch: *mut f32, k: usize) -> Answer;
         pub fn maldjupp_patch(
             old: *const u8,
             o: usize,
             new: *const u8,
             n: usize,
+            pitch: usize,
             px: *mut u32,
             m: usize,
             scratch: *mut f32,
@@ -25,6 +55,7 @@ pub mod raw {
         ) -> Answer;
         pub fn maldjupp_measure(sheet: *const u8, n: usize) -> Room;
         pub fn maldjupp_clip_order(number: usize, buf: *mut u8, room: usize) -> Written;
+        pub fn maldjupp_clear(canvas: State, px: *mut u32, m: usize, ink: Ink) -> Done;
     }
 }
 
@@ -57,12 +88,12 @@ fn words(bytes: &[u8]) -> Vec<u32> {
 impl Memory {
     /// Paints, or patches where there is an old sheet. Each piece of memory ends at a page that cannot be touched, or, one time in four,
     /// begins at one.
-    pub fn call(&mut self, old: Option<&[u8]>, new: &[u8], px: &[u32], scratch: &[u32], random: &mut Random) -> Left {
-        self.call_at(old, new, px, scratch, [(); 4].map(|_| random.below(4) == 0))
+    pub fn call(&mut self, old: Option<&[u8]>, new: &[u8], pitch: usize, px: &[u32], scratch: &[u32], random: &mut Random) -> Left {
+        self.call_at(old, new, pitch, px, scratch, [(); 4].map(|_| random.below(4) == 0))
     }
 
     /// The same, where old sheet, new sheet, px and scratch each begin at such a page or end at one.
-    pub fn call_at(&mut self, old: Option<&[u8]>, new: &[u8], px: &[u32], scratch: &[u32], at_start: [bool; 4]) -> Left {
+    pub fn call_at(&mut self, old: Option<&[u8]>, new: &[u8], pitch: usize, px: &[u32], scratch: &[u32], at_start: [bool; 4]) -> Left {
         let given = old.unwrap_or(&[]);
         let o = self.old.lend(given, at_start[0]);
         let n = self.new.lend(new, at_start[1]);
@@ -70,8 +101,8 @@ impl Memory {
         let s = self.scratch.lend(bytes(scratch), at_start[3]) as *mut f32;
         let answer = unsafe {
             match old {
-                None => raw::maldjupp_paint(n, new.len(), p, px.len(), s, scratch.len()),
-                Some(_) => raw::maldjupp_patch(o, given.len(), n, new.len(), p, px.len(), s, scratch.len()),
+                None => raw::maldjupp_paint(n, new.len(), pitch, p, px.len(), s, scratch.len()),
+                Some(_) => raw::maldjupp_patch(o, given.len(), n, new.len(), pitch, p, px.len(), s, scratch.len()),
             }
         };
         let (old_left, a) = self.old.back();
@@ -99,6 +130,12 @@ impl Memory {
     }
 }
 
+/// A pitch that is refused by 15: just out of range, one of which the lowest 32 bits are in range, or the greatest.
+pub fn bad_pitch(frame: &Frame, random: &mut Random) -> usize {
+    let near = frame.bad_pitch(random);
+    random.of(&[near, near, near, near, (1 << 32) + frame.pitch, usize::MAX])
+}
+
 /// Scratch as it may come: NaN of every kind, infinities, any patterns.
 pub fn dirty(n: usize, random: &mut Random) -> Vec<u32> {
     match random.below(3) {
@@ -112,11 +149,20 @@ pub fn enough(need: usize, random: &mut Random) -> usize {
     need + random.of(&[0, 0, 1, 2, 17])
 }
 
-/// The counts that a run has compared, summed over its calls.
+/// What a run has compared, summed over its calls: counts, and the frames of those that were accepted.
 #[derive(Default)]
 pub struct Compared {
     steps: u64,
     grounded: u64,
+    pub frames: Frames,
+}
+
+/// What of px differs.
+fn in_px(left: &Left, after: &After) -> &'static str {
+    match after.frame {
+        Some(frame) if !frame.same_past(&left.px, &after.px) => "words past the canvas",
+        _ => "pixels",
+    }
 }
 
 impl Compared {
@@ -124,13 +170,14 @@ impl Compared {
     pub fn fault(&mut self, left: &Left, after: &After, scratch: &[u32]) -> Option<&'static str> {
         self.steps += after.answer.steps;
         self.grounded += after.answer.grounded;
+        after.frame.iter().for_each(|frame| self.frames.add(frame));
         let words = left.scratch.iter().zip(scratch).enumerate().all(|(i, (now, was))| *now == if i < after.swept { 0 } else { *was });
         if left.answer.uncounted() != after.answer.uncounted() {
             Some("answer")
         } else if left.answer != after.answer {
             Some("counts")
         } else if left.px != after.px {
-            Some("pixels")
+            Some(in_px(left, after))
         } else if !words {
             Some("scratch")
         } else if !left.inside {
@@ -141,7 +188,7 @@ impl Compared {
     }
 
     pub fn told(&self) -> String {
-        format!("{} steps and {} grounded pixels", self.steps, self.grounded)
+        format!("{} steps and {} grounded pixels, {}", self.steps, self.grounded, self.frames.told())
     }
 }
 
@@ -153,7 +200,7 @@ pub const USUAL: u64 = 5_000;
 
 /// How often each number was returned.
 #[derive(Default)]
-pub struct Numbers([u64; 15]);
+pub struct Numbers([u64; 16]);
 
 impl Numbers {
     pub fn add(&mut self, number: u32) {

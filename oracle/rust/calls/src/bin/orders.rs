@@ -1,10 +1,13 @@
 //! Every small clip order as the library writes it, beside the list of rust/sheets, in every room from none to two bytes more than it
 //! needs; numbers past the last; and each sheet painted by the library and by the unchanged Rust. Exit status 1 where anything differs.
-use answers::random::{Random, SEED};
+use answers::{
+    frame::Frame,
+    random::{Random, SEED},
+};
 use calls::{Compared, Memory};
 use sheets::{
     fixed,
-    orders::{self, is_whole, COUNT, LONGEST, PIXELS},
+    orders::{self, is_whole, COUNT, LONGEST, SIDE},
     paint, SHORTEST,
 };
 use std::{collections::BTreeSet, process::exit};
@@ -59,11 +62,12 @@ impl Run {
         self.ask(number, need, false)
     }
 
-    /// Paints a sheet on 16 pixels without scratch, which begin at a page that cannot be touched or end at one.
+    /// Paints a sheet without scratch, in a frame that begins at a page that cannot be touched or ends at one.
     fn painted(&mut self, number: usize, sheet: &[u8], at_start: bool) {
-        let expected = paint(sheet, PIXELS, 0);
-        let px: Vec<u32> = (0..PIXELS).map(|_| self.random.word()).collect();
-        let left = self.memory.call_at(None, sheet, &px, &[], [at_start; 4]);
+        let frame = Frame::around(SIDE as usize, SIDE as usize, &mut self.random);
+        let expected = paint(sheet, frame.pitch, frame.words(), 0);
+        let px: Vec<u32> = (0..frame.words()).map(|_| self.random.word()).collect();
+        let left = self.memory.call_at(None, sheet, frame.pitch, &px, &[], [at_start; 4]);
         self.calls += 1;
         let after = expected.on(&px);
         let wrong = self.compared.fault(&left, &after, &[]);
@@ -101,7 +105,7 @@ fn main() {
     let sheets = written.iter().collect::<BTreeSet<_>>().len();
     let (calls, counts) = (run.calls, run.compared.told());
     println!("orders: {calls} calls, {sheets} different sheets, {counts}, {} numbers past the last, {} differences", past.len(), run.differ);
-    if run.differ > 0 || sheets != COUNT {
+    if run.compared.frames.lack(false) || run.differ > 0 || sheets != COUNT {
         exit(1);
     }
 }

@@ -1,13 +1,17 @@
 //! Lists of patches after an accepted painting, beside the unchanged Rust: `patches CALLS`, or `patches list N` for one list of them.
-//! After each call every pixel must be that of the sheet accepted last, painted afresh, and an accepted patch's counts at most their
-//! ceiling. Exit status 1 where anything differs, or where a number of documents 01 and 02, a way of altering a sheet, a number of differing
-//! shapes, a pair with a chain or a patch that alters nothing comes too seldom, or no count comes near its ceiling.
-use answers::random::{Random, SEED};
-use calls::{ceilings::Ceilings, dirty, enough, Compared, Memory, Numbers, TOLD};
+//! After each call every pixel must be that of the sheet accepted last, painted afresh, every word past the canvas as it was before the
+//! painting, and an accepted patch's counts at most their ceiling. Exit status 1 where anything differs, or where a number of documents 01
+//! and 02, a way of altering a sheet, a number of differing shapes, a pair with a chain, a patch that alters nothing, a wider frame or another
+//! pitch in a list comes too seldom, or no count comes near its ceiling.
+use answers::{
+    frame::{pitch_ok, Frame},
+    random::{Random, SEED},
+};
+use calls::{bad_pitch, ceilings::Ceilings, dirty, enough, Compared, Memory, Numbers, TOLD};
 use sheets::{
     called,
     chains::unseen,
-    change::{self, APART, PX, SCRATCH, WAYS},
+    change::{self, APART, PITCH, PX, SCRATCH, WAYS},
     fixed, fixed_counts, make, paint, patch, Answer, Ceiling, Chains, Counted, Expected, Made, Sheet,
 };
 use std::{env, process::exit, time::Instant};
@@ -36,6 +40,8 @@ struct Run {
     still: u64,
     /// Accepted patches, and patches refused by 14, by how many shapes differ, in the order of `SETS`.
     sets: [u64; SETS.len()],
+    /// Patches of a list with another pitch than its painting, on px of the painting: refused by 15, by 8, and by a number before them.
+    pitches: [u64; 3],
     chains: Chains,
     ceilings: Ceilings,
     compared: Compared,
@@ -44,16 +50,33 @@ struct Run {
     differ: u64,
 }
 
-/// What stands on the canvas: the kept sheet, the pixels that the last call left, and those of a fresh painting.
+/// What stands on the canvas: the kept sheet, the frame of its painting, px as the last call left them, and as they must be: the words of
+/// the canvas those of a fresh painting, the others as they were before the list.
 struct Ticket {
     kept: Made,
+    frame: Frame,
     px: Vec<u32>,
-    fresh: Vec<u32>,
+    whole: Vec<u32>,
 }
 
-/// The pixels and scratch that a patch in a way is lent, after those that stand on the canvas: sometimes not as they must be.
-fn lent(standing: &[u32], new: &[u8], way: usize, random: &mut Random) -> (Vec<u32>, Vec<u32>) {
-    let mut px = standing.to_vec();
+/// What a patch is given beside its sheets.
+struct Given {
+    pitch: usize,
+    px: Vec<u32>,
+    scratch: Vec<u32>,
+}
+
+/// The pitch of a patch in a way: mostly that of the painting; else another, in one of two in range.
+fn pitch(frame: &Frame, way: usize, random: &mut Random) -> usize {
+    if way != PITCH && random.below(24) > 0 {
+        return frame.pitch;
+    }
+    if random.below(2) == 0 { frame.other_pitch(random) } else { bad_pitch(frame, random) }
+}
+
+/// What a patch in a way is given, after what stands on the canvas: sometimes not as it must be.
+fn given(ticket: &Ticket, new: &[u8], way: usize, random: &mut Random) -> Given {
+    let (pitch, mut px) = (pitch(&ticket.frame, way, random), ticket.px.clone());
     if way >= APART {
         px.iter_mut().for_each(|p| *p = random.word());
     }
@@ -64,7 +87,19 @@ fn lent(standing: &[u32], new: &[u8], way: usize, random: &mut Random) -> (Vec<u
     let need = Sheet::read(new).map_or(random.below(40) as usize, |sheet| sheet.need());
     let short = way == SCRATCH || seldom(random);
     let words = if short { random.of(&[need.saturating_sub(1), need / 2, 0]) } else { enough(need, random) };
-    (px, dirty(words, random))
+    Given { pitch, px, scratch: dirty(words, random) }
+}
+
+/// Px of an example: its old sheet painted in its frame, where that fits.
+fn standing(p: &fixed::Patch) -> Vec<u32> {
+    let mut px = vec![7; p.px];
+    if let Ok(old) = Sheet::read(&p.old) {
+        let frame = Frame { w: old.w, h: old.h, pitch: p.pitch };
+        if pitch_ok(old.w, p.pitch) && frame.words() == p.px {
+            frame.lay(&old.fresh(), &mut px);
+        }
+    }
+    px
 }
 
 impl Run {
@@ -79,29 +114,32 @@ impl Run {
         let most = if random.below(3) == 0 { 70 } else { 14 };
         let kept = make::sheet(random, 32, most);
         let bytes = kept.bytes();
-        let (sheet, px) = (Sheet::read(&bytes).expect("a sound sheet"), vec![random.word(); kept.area()]);
+        let sheet = Sheet::read(&bytes).expect("a sound sheet");
+        let frame = Frame::around(sheet.w, sheet.h, random);
+        let px = frame.laid(&vec![random.word(); kept.area()], random);
         let scratch = dirty(enough(sheet.need(), random), random);
-        let after = paint(&bytes, px.len(), scratch.len()).on(&px);
-        let left = self.memory.call(None, &bytes, &px, &scratch, random);
+        let after = paint(&bytes, frame.pitch, px.len(), scratch.len()).on(&px);
+        let left = self.memory.call(None, &bytes, frame.pitch, &px, &scratch, random);
         self.paintings += 1;
         if let Some(what) = self.compared.fault(&left, &after, &scratch) {
             self.differs(name, what, format!("the painting of {bytes:02x?}"));
         }
-        Ticket { kept, px: after.px.clone(), fresh: after.px }
+        Ticket { kept, frame, px: after.px.clone(), whole: after.px }
     }
 
     /// One patch. Where it is accepted, its new sheet is the kept one.
     fn patched(&mut self, name: &str, ticket: &mut Ticket, random: &mut Random) {
         let way = change::way(random);
         let (old, new) = change::patch(&ticket.kept, random, way);
-        let (px, scratch) = lent(&ticket.px, &new, way, random);
-        let expected = patch(&old, &new, px.len(), scratch.len());
+        let Given { pitch, px, scratch } = given(ticket, &new, way, random);
+        let expected = patch(&old, &new, pitch, px.len(), scratch.len());
         let counted = expected.counted();
         let after = expected.after(&px, counted.as_ref());
-        let left = self.memory.call(Some(&old), &new, &px, &scratch, random);
+        let left = self.memory.call(Some(&old), &new, pitch, &px, &scratch, random);
         self.count(way, &after.answer);
         if let Some(what) = self.compared.fault(&left, &after, &scratch) {
-            self.differs(name, what, format!("{:?} instead of {:?}\n  old {old:02x?}\n  new {new:02x?}", left.answer, after.answer));
+            let lent = format!("pitch {pitch} px {} scratch {}", px.len(), scratch.len());
+            self.differs(name, what, format!("{:?} instead of {:?}, {lent}\n  old {old:02x?}\n  new {new:02x?}", left.answer, after.answer));
         }
         if let Some(sheets) = read(&old, &new) {
             self.count_pairs(&sheets, &expected, counted.as_ref());
@@ -112,17 +150,34 @@ impl Run {
         if way >= APART {
             return;
         }
+        if pitch != ticket.frame.pitch && px.len() == ticket.px.len() {
+            self.count_pitch(name, after.answer.number);
+        }
         if let (Some(sheet), Some(counted)) = (&expected.sheet, counted) {
             ticket.kept = Made::of(sheet);
-            ticket.fresh = counted.px;
+            ticket.frame.lay(&counted.px, &mut ticket.whole);
         }
         if left.px.len() == ticket.px.len() {
             ticket.px = left.px;
         }
-        if ticket.px != ticket.fresh {
-            self.differs(name, "the fresh painting", format!("box {:?}\n  old {old:02x?}\n  new {new:02x?}", after.answer));
-            ticket.px.copy_from_slice(&ticket.fresh);
+        if ticket.px != ticket.whole {
+            let past = !ticket.frame.same_past(&ticket.px, &ticket.whole);
+            let what = if past { "the words past the canvas before the list" } else { "the fresh painting" };
+            self.differs(name, what, format!("box {:?}\n  old {old:02x?}\n  new {new:02x?}", after.answer));
+            ticket.px.copy_from_slice(&ticket.whole);
         }
+    }
+
+    /// A patch of a list with another pitch than its painting, which is never accepted.
+    fn count_pitch(&mut self, name: &str, number: u32) {
+        if number == 0 {
+            self.differs(name, "a pitch that is accepted", String::new());
+        }
+        self.pitches[match number {
+            15 => 0,
+            8 => 1,
+            _ => 2,
+        }] += 1;
     }
 
     /// Holds a patch that the library accepted to its ceiling, by the new sheet and the box that it reported; answers that.
@@ -171,11 +226,16 @@ impl Run {
         for ((_, name), times) in SETS.iter().zip(self.sets).filter(|_| told) {
             println!("{name:>8} shapes differ {times:>9} times");
         }
-        let mut seldom = self.numbers.report(&[1, 2, 3, 4, 5, 6, 7, 8, 9, 10, 13], calls / 2000, told);
+        let mut seldom = self.numbers.report(&[1, 2, 3, 4, 5, 6, 7, 8, 9, 10, 13, 15], calls / 2000, told);
         seldom.extend(self.numbers.report(&[14], calls / 1000, false));
         if told {
             println!("accepted with an empty box {} times", self.empty);
             println!("accepted with a box in which nothing was altered {} times", self.still);
+        }
+        let [by_15, by_8, before] = self.pitches;
+        let pitches = by_15.min(by_8) < calls / 1000;
+        if told || pitches {
+            println!("another pitch in a list: refused by 15 {by_15} times, by 8 {by_8} times, by a number before them {before} times");
         }
         if !seldom.is_empty() {
             println!("too seldom: numbers {seldom:?}");
@@ -188,7 +248,7 @@ impl Run {
         if nothing {
             println!("accepted with steps 0 and grounded 0: {} times with an empty box, {} times with another", self.empty, self.still);
         }
-        let unbounded = self.ceilings.lack(told);
+        let unbounded = self.ceilings.lack(told) | self.compared.frames.lack(told) | pitches;
         let unseen = (0..WAYS.len()).any(|way| self.accepted[way] + self.refused[way] == 0) || self.sets.contains(&0) || nothing;
         !seldom.is_empty() || !never.is_empty() || unseen || unbounded
     }
@@ -202,10 +262,10 @@ impl Run {
         }
     }
 
-    /// A patch on pixels, or a painting where there is no old sheet.
-    fn example(&mut self, name: &str, old: Option<&[u8]>, new: &[u8], px: &[u32], scratch: usize, random: &mut Random) {
-        let (scratch, after) = (dirty(scratch, random), called(old, new, px.len(), scratch).on(px));
-        let left = self.memory.call(old, new, px, &scratch, random);
+    /// A patch on px, or a painting where there is no old sheet.
+    fn example(&mut self, name: &str, old: Option<&[u8]>, new: &[u8], pitch: usize, px: &[u32], scratch: usize, random: &mut Random) {
+        let (scratch, after) = (dirty(scratch, random), called(old, new, pitch, px.len(), scratch).on(px));
+        let left = self.memory.call(old, new, pitch, px, &scratch, random);
         self.calls += 1;
         self.numbers.add(after.answer.number);
         if let Some(what) = self.compared.fault(&left, &after, &scratch) {
@@ -220,12 +280,10 @@ impl Run {
     fn examples(&mut self) {
         let mut random = Random(SEED + 9);
         for (i, p) in fixed::patches().iter().enumerate() {
-            let mut px = Sheet::read(&p.old).map_or(vec![7; p.px], |old| old.fresh());
-            px.resize(p.px, 7);
-            self.example(&i.to_string(), Some(&p.old), &p.new, &px, p.scratch, &mut random);
+            self.example(&i.to_string(), Some(&p.old), &p.new, p.pitch, &standing(p), p.scratch, &mut random);
         }
         for c in fixed_counts::counts() {
-            self.example(c.name, c.old.as_deref(), &c.new, &c.before, 0, &mut random);
+            self.example(c.name, c.old.as_deref(), &c.new, c.pitch, &c.before, 0, &mut random);
         }
     }
 }

@@ -1,8 +1,11 @@
 //! Painting, counting and measuring random sheets, sound and damaged ones, beside the unchanged Rust: `sheets CASES`, or `sheets case N`
-//! for one case of it. Exit status 1 where anything differs, where a number of document 01 or a sort of room comes too seldom, or a sort of
-//! chain never.
-use answers::random::{Random, SEED};
-use calls::{dirty, enough, rooms::Rooms, Compared, Memory, Numbers, TOLD, USUAL};
+//! for one case of it. Exit status 1 where anything differs, where a number of documents 01 and 02, a sort of room or a wider frame comes too
+//! seldom, or a sort of chain or of pitch never.
+use answers::{
+    frame::Frame,
+    random::{Random, SEED},
+};
+use calls::{bad_pitch, dirty, enough, rooms::Rooms, Compared, Memory, Numbers, TOLD, USUAL};
 use sheets::{
     chains::unseen,
     damage::damaged,
@@ -15,34 +18,40 @@ use std::{env, mem::take, process::exit, time::Instant};
 /// What a painting is given.
 struct Given {
     sheet: Vec<u8>,
+    pitch: usize,
     px: usize,
     scratch: usize,
 }
 
 fn examples() -> Vec<Given> {
-    fixed::paintings().into_iter().map(|p| Given { sheet: p.sheet, px: p.px, scratch: p.scratch }).collect()
+    fixed::paintings().into_iter().map(|p| Given { sheet: p.sheet, pitch: p.pitch, px: p.px, scratch: p.scratch }).collect()
 }
 
-/// What a case is given: one in two is damaged, one in sixteen is lent a wrong count of pixels, one in sixteen too little scratch.
+/// What a case is given: one in two is damaged, one in sixteen is lent a wrong count of words, one in sixteen too little scratch, and one in
+/// sixteen has a pitch that is out of range.
 fn given(random: &mut Random) -> Given {
     let made = make::sheet(random, 40, 24);
-    let (area, bytes) = (made.area(), if random.below(2) == 0 { damaged(made, random) } else { made.bytes() });
-    let (area, need) = match Sheet::read(&bytes) {
-        Ok(sheet) => (sheet.w * sheet.h, sheet.need()),
-        Err(_) => (area, random.below(40) as usize),
+    let ([w, h], bytes) = (made.sides(), if random.below(2) == 0 { damaged(made, random) } else { made.bytes() });
+    let (w, h, need) = match Sheet::read(&bytes) {
+        Ok(sheet) => (sheet.w, sheet.h, sheet.need()),
+        Err(_) => (w as usize, h as usize, random.below(40) as usize),
     };
+    let frame = Frame::around(w, h, random);
+    let words = frame.words();
     let px = match random.below(64) {
-        0 => area + 1,
-        1 => area - 1,
-        2 => random.below(2 * area as u32 + 2) as usize,
+        0 => words + 1,
+        1 => words - 1,
+        2 => random.below(2 * words as u32 + 2) as usize,
         3 => 0,
-        _ => area,
+        4 => words - (frame.pitch - w),
+        _ => words,
     };
+    let pitch = if random.below(16) == 0 { bad_pitch(&frame, random) } else { frame.pitch };
     let scratch = match random.below(16) {
         0 if need > 0 => random.of(&[need - 1, need / 2, 0]),
         _ => enough(need, random),
     };
-    Given { sheet: bytes, px, scratch }
+    Given { sheet: bytes, pitch, px, scratch }
 }
 
 /// Words as px may come.
@@ -73,10 +82,10 @@ impl Run {
     fn case(&mut self, name: &str, given: &Given, random: &mut Random) -> Answer {
         let px = any_words(given.px, random);
         let scratch = dirty(given.scratch, random);
-        let expected = paint(&given.sheet, given.px, given.scratch);
+        let expected = paint(&given.sheet, given.pitch, given.px, given.scratch);
         let counted = expected.counted();
         let after = expected.after(&px, counted.as_ref());
-        let left = self.memory.call(None, &given.sheet, &px, &scratch, random);
+        let left = self.memory.call(None, &given.sheet, given.pitch, &px, &scratch, random);
         self.numbers.add(expected.number);
         match (&expected.sheet, &counted) {
             (Some(sheet), Some(counted)) => self.chains.painted(sheet, counted),
@@ -84,7 +93,7 @@ impl Run {
         }
         self.pixels += after.px.len() as u64;
         if let Some(what) = self.compared.fault(&left, &after, &scratch) {
-            let lent = format!("px {} scratch {}", given.px, given.scratch);
+            let lent = format!("pitch {} px {} scratch {}", given.pitch, given.px, given.scratch);
             self.differs(format!("{name} differs in {what}: {:?} instead of {:?}, {lent}", left.answer, after.answer), &given.sheet);
         }
         self.measured(name, &given.sheet, measure(&given.sheet), counted, random);
@@ -104,18 +113,20 @@ impl Run {
         let Ok(read) = read else { return };
         let counted = counted.unwrap_or_else(|| read.counted(read.canvas()));
         let scratch = dirty(told.words, random);
-        self.rooms.enough += self.lent(name, sheet, &counted, &scratch, 0, random) as u64;
+        let frame = Frame::around(read.w, read.h, random);
+        self.rooms.enough += self.lent(name, sheet, frame, &counted, &scratch, 0, random) as u64;
         if let Some((_, fewer)) = scratch.split_last() {
-            self.rooms.fewer += self.lent(name, sheet, &counted, fewer, 9, random) as u64;
+            self.rooms.fewer += self.lent(name, sheet, frame, &counted, fewer, 9, random) as u64;
         }
     }
 
-    /// Paints on px and scratch that end at a page that cannot be touched, which must return a number; px come at random, or as this sheet was
-    /// painted. Answers whether all is as it must be.
-    fn lent(&mut self, name: &str, sheet: &[u8], counted: &Counted, scratch: &[u32], number: u32, random: &mut Random) -> bool {
-        let px = if random.below(2) == 0 { counted.px.clone() } else { any_words(counted.px.len(), random) };
-        let after = paint(sheet, px.len(), scratch.len()).after(&px, Some(counted));
-        let left = self.memory.call_at(None, sheet, &px, scratch, [false; 4]);
+    /// Paints in a frame, on px and scratch that end at a page that cannot be touched, which must return a number; the pixels come at random,
+    /// or as this sheet was painted. Answers whether all is as it must be.
+    fn lent(&mut self, name: &str, sheet: &[u8], frame: Frame, counted: &Counted, scratch: &[u32], number: u32, random: &mut Random) -> bool {
+        let rows = if random.below(2) == 0 { counted.px.clone() } else { any_words(counted.px.len(), random) };
+        let px = frame.laid(&rows, random);
+        let after = paint(sheet, frame.pitch, px.len(), scratch.len()).after(&px, Some(counted));
+        let left = self.memory.call_at(None, sheet, frame.pitch, &px, scratch, [false; 4]);
         let other = (left.answer.number, left.answer.item) != (number, 0);
         let wrong = self.compared.fault(&left, &after, scratch).or(other.then_some("number"));
         if let Some(what) = wrong {
@@ -143,7 +154,7 @@ impl Run {
 
     /// The sheet whose steps are more than 32 bits count.
     fn busiest(&mut self) {
-        let given = Given { sheet: busiest(), px: MOST_SIDE * MOST_SIDE, scratch: 0 };
+        let given = Given { sheet: busiest(), pitch: MOST_SIDE, px: MOST_SIDE * MOST_SIDE, scratch: 0 };
         let steps = self.case("the busiest sheet", &given, &mut Random(SEED + 14)).steps;
         assert_eq!(steps, BUSIEST);
     }
@@ -151,7 +162,7 @@ impl Run {
     /// Prints what a run of so many cases has seen; answers whether something came too seldom.
     fn lacks(&self, cases: u64) -> bool {
         let (least, told) = (cases / 300, cases >= TOLD);
-        let seldom = self.numbers.report(&[1, 2, 3, 4, 5, 6, 7, 8, 9, 13], least, told);
+        let seldom = self.numbers.report(&[1, 2, 3, 4, 5, 6, 7, 8, 9, 13, 15], least, told);
         let never = unseen(&self.chains.paintings(), told);
         if !seldom.is_empty() {
             println!("less than {least} times: numbers {seldom:?}");
@@ -160,7 +171,8 @@ impl Run {
         if chains {
             println!("chains never seen: {never:?}");
         }
-        self.rooms.lack(cases, told) || !seldom.is_empty() || chains
+        let frames = self.compared.frames.lack(told) && cases >= USUAL;
+        self.rooms.lack(cases, told) || !seldom.is_empty() || chains || frames
     }
 }
 

@@ -4,10 +4,17 @@
 //! each answer being held to what the Rust gives. Then what a patch costs by the area of its box and by the number
 //! of items, what one patch of three shapes costs beside three patches of one, and what checking a sheet of about 60,000 bytes costs
 //! beside painting it, and measuring it beside checking it; and what a weight trace costs as one chain beside the same lines as items.
+//! All of this is on a canvas alone; then what painting, patching and clearing cost within a wider frame beside that.
 //! Beside each patch stand the steps that it returned, which must be those of the Rust, and their ceiling, M × area.
-use calls::raw::{maldjupp_measure, maldjupp_paint, maldjupp_patch};
-use kash::gfx::Canvas;
-use sheets::{called, fixed, fixed_chains::chain, make, measure, paint, patch, Answer, Ceiling, Made, Sheet};
+use answers::frame::Frame;
+use calls::raw::{maldjupp_clear, maldjupp_measure, maldjupp_paint, maldjupp_patch, Done, Ink, State};
+use kash::{color::Color, gfx::Canvas};
+use sheets::{
+    called,
+    fixed::{self, width},
+    fixed_chains::chain,
+    make, measure, paint, patch, Answer, Ceiling, Made, Sheet,
+};
 use std::{env, fs, hint::black_box, time::Instant};
 
 const ROUNDS: usize = 200;
@@ -71,13 +78,13 @@ fn weighing(n: usize) -> [Vec<u8>; 4] {
 fn costs(sheet: &[u8], other: &[u8]) -> ([f64; 2], String) {
     let mut px = vec![0u32; 640 * 400];
     let mut least = [f64::MAX; 2];
-    let patched = patch(sheet, other, px.len(), 0).on(&Sheet::read(sheet).expect("a sound sheet").fresh()).answer;
+    let patched = patch(sheet, other, 640, px.len(), 0).on(&Sheet::read(sheet).expect("a sound sheet").fresh()).answer;
     for _ in 0..ROUNDS {
         let (p, m) = (px.as_mut_ptr(), px.len());
         let none = std::ptr::NonNull::<f32>::dangling().as_ptr();
-        micros(&mut least[0], || assert_eq!(black_box(unsafe { maldjupp_paint(sheet.as_ptr(), sheet.len(), p, m, none, 0) }).number, 0));
+        micros(&mut least[0], || assert_eq!(black_box(unsafe { maldjupp_paint(sheet.as_ptr(), sheet.len(), 640, p, m, none, 0) }).number, 0));
         let answer = micros(&mut least[1], || {
-            black_box(unsafe { maldjupp_patch(sheet.as_ptr(), sheet.len(), other.as_ptr(), other.len(), p, m, none, 0) })
+            black_box(unsafe { maldjupp_patch(sheet.as_ptr(), sheet.len(), other.as_ptr(), other.len(), 640, p, m, none, 0) })
         });
         assert_eq!(answer, patched);
     }
@@ -86,11 +93,11 @@ fn costs(sheet: &[u8], other: &[u8]) -> ([f64; 2], String) {
 
 /// The smallest times of having a sheet refused by 8 after its checks, no pixels being lent, and of measuring it; the two in turn.
 fn checks(sheet: &[u8]) -> [f64; 2] {
-    let room = measure(sheet);
+    let (room, pitch) = (measure(sheet), width(sheet));
     let (px, scratch) = (std::ptr::NonNull::<u32>::dangling().as_ptr(), std::ptr::NonNull::<f32>::dangling().as_ptr());
     let mut least = [f64::MAX; 2];
     for _ in 0..ROUNDS {
-        micros(&mut least[0], || assert_eq!(black_box(unsafe { maldjupp_paint(sheet.as_ptr(), sheet.len(), px, 0, scratch, 0) }).number, 8));
+        micros(&mut least[0], || assert_eq!(black_box(unsafe { maldjupp_paint(sheet.as_ptr(), sheet.len(), pitch, px, 0, scratch, 0) }).number, 8));
         micros(&mut least[1], || assert_eq!(black_box(unsafe { maldjupp_measure(sheet.as_ptr(), sheet.len()) }), room));
     }
     least
@@ -104,14 +111,15 @@ fn sets(sheets: &[Vec<u8>; 4]) -> ([f64; 4], Answer) {
     let mut scratch = vec![0f32; read.iter().map(Sheet::need).max().unwrap_or(0)];
     let mut least = [f64::MAX; 4];
     let pairs = [(0, 1), (1, 2), (2, 3), (0, 3)];
-    let answers = pairs.map(|(from, to)| patch(&sheets[from], &sheets[to], px.len(), scratch.len()).on(&fresh[from]).answer);
+    let pitch = read[0].w;
+    let answers = pairs.map(|(from, to)| patch(&sheets[from], &sheets[to], pitch, px.len(), scratch.len()).on(&fresh[from]).answer);
     for _ in 0..ROUNDS {
         for (i, (from, to)) in pairs.into_iter().enumerate() {
             px.copy_from_slice(&fresh[from]);
             let (old, new) = (&sheets[from], &sheets[to]);
             let answer = micros(&mut least[i], || {
                 let (p, m, s, k) = (px.as_mut_ptr(), px.len(), scratch.as_mut_ptr(), scratch.len());
-                black_box(unsafe { maldjupp_patch(old.as_ptr(), old.len(), new.as_ptr(), new.len(), p, m, s, k) })
+                black_box(unsafe { maldjupp_patch(old.as_ptr(), old.len(), new.as_ptr(), new.len(), pitch, p, m, s, k) })
             });
             assert_eq!(answer, answers[i]);
             assert!(answer.number == 0 && px == fresh[to]);
@@ -190,15 +198,16 @@ fn beside(old: [Vec<u8>; 2], new: &[Vec<u8>; 2], patched: bool) -> ([f64; 2], [A
     let (before, after) = (fresh(&old[0]), fresh(&new[0]));
     assert!(before == fresh(&old[1]) && after == fresh(&new[1]), "chain and lines have the same pixels");
     let (mut px, m, none, mut least) = (before.clone(), before.len(), std::ptr::NonNull::<f32>::dangling().as_ptr(), [f64::MAX; 2]);
-    let answers = [0, 1].map(|i| called(patched.then_some(&old[i]), &new[i], m, 0).on(&before).answer);
+    let pitch = width(&old[0]);
+    let answers = [0, 1].map(|i| called(patched.then_some(&old[i]), &new[i], pitch, m, 0).on(&before).answer);
     for i in (0..2 * ROUNDS).map(|round| round % 2) {
         px.copy_from_slice(&before);
         let (old, new, p) = (&old[i], &new[i], px.as_mut_ptr());
         micros(&mut least[i], || {
             let answer = if patched {
-                unsafe { maldjupp_patch(old.as_ptr(), old.len(), new.as_ptr(), new.len(), p, m, none, 0) }
+                unsafe { maldjupp_patch(old.as_ptr(), old.len(), new.as_ptr(), new.len(), pitch, p, m, none, 0) }
             } else {
-                unsafe { maldjupp_paint(new.as_ptr(), new.len(), p, m, none, 0) }
+                unsafe { maldjupp_paint(new.as_ptr(), new.len(), pitch, p, m, none, 0) }
             };
             assert_eq!(black_box(answer), answers[i]);
         });
@@ -238,16 +247,16 @@ fn ticket(bytes: &[Vec<u8>; 2]) {
     let fresh = sheets.each_ref().map(Sheet::fresh);
     let (mut canvas, mut px) = (Canvas::new(sheets[0].w as i32, sheets[0].h as i32), fresh[0].clone());
     let mut scratch = vec![0f32; sheets[0].need().max(sheets[1].need())];
-    let (m, k) = (px.len(), scratch.len());
-    let painting = [0, 1].map(|i| paint(&bytes[i], m, k).on(&fresh[i]).answer);
-    let patching = [0, 1].map(|i| patch(&bytes[i], &bytes[1 - i], m, k).on(&fresh[i]).answer);
+    let (pitch, m, k) = (sheets[0].w, px.len(), scratch.len());
+    let painting = [0, 1].map(|i| paint(&bytes[i], pitch, m, k).on(&fresh[i]).answer);
+    let patching = [0, 1].map(|i| patch(&bytes[i], &bytes[1 - i], pitch, m, k).on(&fresh[i]).answer);
     assert_eq!(patching[0].number, 0, "the sheets differ in more than shapes");
     let (mut painted, mut patched, mut rust) = (f64::MAX, f64::MAX, f64::MAX);
     for i in (0..ROUNDS).map(|round| round % 2) {
         let (old, new, p, s) = (&bytes[i], &bytes[1 - i], px.as_mut_ptr(), scratch.as_mut_ptr());
-        micros(&mut painted, || assert_eq!(black_box(unsafe { maldjupp_paint(old.as_ptr(), old.len(), p, m, s, k) }), painting[i]));
+        micros(&mut painted, || assert_eq!(black_box(unsafe { maldjupp_paint(old.as_ptr(), old.len(), pitch, p, m, s, k) }), painting[i]));
         micros(&mut patched, || {
-            let answer = unsafe { maldjupp_patch(old.as_ptr(), old.len(), new.as_ptr(), new.len(), p, m, s, k) };
+            let answer = unsafe { maldjupp_patch(old.as_ptr(), old.len(), new.as_ptr(), new.len(), pitch, p, m, s, k) };
             assert_eq!(black_box(answer), patching[i]);
         });
         micros(&mut rust, || by_rust(black_box(&sheets[1 - i]), &mut canvas));
@@ -264,6 +273,84 @@ fn ticket(bytes: &[Vec<u8>; 2]) {
     busy(&painting[0], &patching[0], measure(&bytes[0]).pixels);
 }
 
+/// The pitches at which a canvas of w columns is timed: its own, and those whose rows lie as far from each other as they can, just so that
+/// they fall on the same sets of a cache, and not.
+fn pitches(w: usize) -> [usize; 3] {
+    [w, 4080, 4096]
+}
+
+/// The smallest times at each pitch, in turn, of a call on px in a frame, before which the canvas has the first pixels and after which it must
+/// have the second, the words past it as they were.
+fn in_frames(w: usize, h: usize, [before, after]: [&[u32]; 2], mut call: impl FnMut(usize, &mut [u32])) -> [f64; 3] {
+    let frames = pitches(w).map(|pitch| Frame { w, h, pitch });
+    let lent = frames.map(|frame| vec![0x5a5a_5a5a; frame.words()]);
+    let [mut px, mut whole] = [lent.clone(), lent];
+    let mut least = [f64::MAX; 3];
+    for i in 0..3 {
+        frames[i].lay(after, &mut whole[i]);
+    }
+    for i in (0..3 * ROUNDS).map(|round| round % 3) {
+        frames[i].lay(before, &mut px[i]);
+        micros(&mut least[i], || call(frames[i].pitch, black_box(&mut px[i])));
+        assert!(px[i] == whole[i]);
+    }
+    least
+}
+
+/// Prints what a call costs in frames.
+fn row_in_frames(name: &str, [alone, apart, far]: [f64; 3], limit: &str) {
+    println!("| {name} | {alone:.1} | {apart:.1} | {:.2} | {far:.1} | {:.2} | {limit} |", apart / alone, far / alone);
+}
+
+/// What a ticket, a sheet of many small fills and `clear` cost in frames.
+fn in_wider_frames(bytes: &[Vec<u8>; 2]) {
+    println!("\n| within a frame, 640 × 400 | pitch 640 µs | pitch 4,080 µs | ratio | pitch 4,096 µs | ratio | limit |");
+    println!("|---|---|---|---|---|---|---|");
+    let sheets = bytes.each_ref().map(|b| Sheet::read(b).expect("a sound sheet"));
+    let [old, new] = sheets.each_ref().map(Sheet::fresh);
+    let (w, h, need) = (sheets[0].w, sheets[0].h, sheets[0].need().max(sheets[1].need()));
+    let (mut scratch, mut room) = (vec![0f32; need], vec![0f32; need]);
+    let mut painted = |sheet: &[u8], pitch, px: &mut [u32]| {
+        let (p, m, s) = (px.as_mut_ptr(), px.len(), scratch.as_mut_ptr());
+        assert_eq!(black_box(unsafe { maldjupp_paint(sheet.as_ptr(), sheet.len(), pitch, p, m, s, need) }).number, 0);
+    };
+    let patched = |pitch, px: &mut [u32]| {
+        let [old, new] = bytes;
+        let (p, m, s) = (px.as_mut_ptr(), px.len(), room.as_mut_ptr());
+        let answer = unsafe { maldjupp_patch(old.as_ptr(), old.len(), new.as_ptr(), new.len(), pitch, p, m, s, need) };
+        assert_eq!(black_box(answer).number, 0);
+    };
+    row_in_frames("ticket, painted", in_frames(w, h, [&new, &old], |pitch, px| painted(&bytes[0], pitch, px)), "1.3 at 4,096");
+    row_in_frames("ticket, patched", in_frames(w, h, [&old, &new], patched), "");
+    let many = fills(1024, 32.0);
+    let fresh = Sheet::read(&many).expect("a sound sheet").fresh();
+    let on_black = vec![0; fresh.len()];
+    row_in_frames("1024 small fills, painted", in_frames(640, 400, [&on_black, &fresh], |pitch, px| painted(&many, pitch, px)), "");
+    row_in_frames("clear", in_frames(640, 400, [&on_black, &vec![0x0020_40f0; fresh.len()]], cleared), "");
+}
+
+/// Clears a canvas of 640 × 400 within a frame.
+fn cleared(pitch: usize, px: &mut [u32]) {
+    let canvas = State { w: 640, h: 400, pitch, clip: [0, 0, 640, 400], saved: [[0; 4]; 16], depth: 0 };
+    let done = unsafe { maldjupp_clear(canvas, px.as_mut_ptr(), px.len(), Ink { rgba: [0x20, 0x40, 0xf0, 0xff] }) };
+    assert_eq!(black_box(done), Done { number: 0, state: canvas });
+}
+
+/// `clear` of a canvas alone beside the Rust's.
+fn clearing() {
+    let (mut canvas, mut px) = (Canvas::new(640, 400), vec![0; 640 * 400]);
+    let (mut ours, mut rust) = (f64::MAX, f64::MAX);
+    for _ in 0..ROUNDS {
+        px.fill(7);
+        micros(&mut ours, || cleared(640, black_box(&mut px)));
+        canvas.px.fill(7);
+        micros(&mut rust, || black_box(&mut canvas).clear(Color::rgb(0x20, 0x40, 0xf0)));
+        assert!(px == canvas.px);
+    }
+    println!("\n| canvas call, 640 × 400 | Rattle µs | Rust µs | ratio |\n|---|---|---|---|");
+    println!("| clear | {ours:.1} | {rust:.1} | {:.2} |", ours / rust);
+}
+
 fn main() {
     let word = |i: usize| env::args().nth(i).expect("usage: ticket SHEET OTHER FOLDER");
     let file = |i: usize| fs::read(word(i)).expect("a file");
@@ -273,4 +360,6 @@ fn main() {
     largest();
     sets_by_items(&settled);
     traces();
+    clearing();
+    in_wider_frames(&[file(1), file(2)]);
 }
