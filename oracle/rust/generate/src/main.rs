@@ -1,5 +1,6 @@
 //! Writes what the program `replay_stored` reads and must print, below its folder data and in its file stdout, and the sheets of oracle/stored.
 //! Before it writes, it holds the table of a shadow's fractions to the Rust.
+use answers::{frame::Frame, random::Random};
 use std::{
     env, fs, iter,
     ops::RangeInclusive,
@@ -16,6 +17,27 @@ mod paint;
 mod paintsheet;
 mod shape;
 mod sheet;
+
+/// The most words of px that a case lends.
+const WORDS: usize = 4096;
+
+/// A canvas in a wider frame in three cases of five, else alone: most of the known examples are canvases alone.
+fn framed(w: usize, h: usize, random: &mut Random) -> Frame {
+    let wider = random.below(5) < 3;
+    loop {
+        let frame = Frame::within(w, h, WORDS, random);
+        if frame.is_wider() == wider {
+            return frame;
+        }
+    }
+}
+
+/// What a call leaves in px, as it is stored: the pitch of the rows, how many words of each are stored, and those. The other words are
+/// as they came; all of them where nothing is given.
+fn left(rows: Option<(Frame, &[u32])>) -> Vec<u32> {
+    let Some((frame, px)) = rows else { return vec![0; 2] };
+    [&[frame.pitch as u32, frame.w as u32], px].concat()
+}
 
 /// Cases of one area: each is a function's number, its inputs and the Rust's answer.
 struct Stored {

@@ -1,6 +1,6 @@
 //! The small clip orders: each sheet with its length and the pixels that the Rust paints.
 use sheets::{
-    orders::{self, is_whole, PIXELS},
+    orders::{self, is_whole, PIXELS, SIDE},
     paint,
 };
 
@@ -11,7 +11,7 @@ pub const COUNTS: [(u32, usize); 5] = [(1, SHEETS), (2, SHEETS), (3, SHEETS), (4
 
 /// A sheet's length, its pixels and its bytes, which are whole words.
 fn case(sheet: &[u8]) -> Vec<u8> {
-    let expected = paint(sheet, PIXELS, 0);
+    let expected = paint(sheet, SIDE as usize, PIXELS, 0);
     assert!(is_whole(&expected));
     let px = expected.sheet.expect("an accepted sheet").fresh();
     assert_eq!((px.len(), sheet.len() % 4), (PIXELS, 0));

@@ -61,7 +61,7 @@ fn cases() -> Vec<(String, Vec<u8>, &'static str)> {
         _ => "",
     };
     // Those of document 01 whose number does not hang on what is lent.
-    for p in fixed::paintings().into_iter().filter(|p| p.number != 8 && p.number != 9 && p.name != "largest") {
+    for p in fixed::alone().into_iter().filter(|p| p.number != 8 && p.number != 9 && p.name != "largest") {
         let known = match p.name {
             "red" => "00FF0000 00000000 00000000 00000000\n",
             "half_covered" => "00808080 00808080\n",

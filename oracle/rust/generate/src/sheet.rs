@@ -1,16 +1,20 @@
-//! The cases of sheets and patches: calls on canvases of up to 64 pixels, each with all that the call returns and leaves.
-use crate::Stored;
-use answers::random::{Random, SEED};
+//! The cases of sheets and patches: calls on canvases of up to 64 pixels, alone or in a wider frame, each with all that the call returns and
+//! leaves.
+use crate::{framed, left, Stored, WORDS};
+use answers::{
+    frame::{pitch_ok, steps, Frame},
+    random::{Random, SEED},
+};
 use sheets::{
     called,
     chains::unseen,
-    change::{self, APART, DAMAGED_NEW, DAMAGED_OLD, ONE_SHAPE, PX, SCRATCH},
+    change::{self, APART, DAMAGED_NEW, DAMAGED_OLD, ONE_SHAPE, PITCH, PX, SCRATCH},
     damage::damaged,
     fixed, make, After, Chains, Expected, Made, Sheet,
 };
 
 /// Words of a case, and the most that it has of pixels, scratch, and words of its sheets.
-const WIDTH: usize = 251;
+const WIDTH: usize = 254;
 const PIXELS: usize = 64;
 const SCRATCH_WORDS: usize = 4096;
 const SHEETS: usize = 171;
@@ -22,11 +26,16 @@ const AFTER: u32 = 3;
 const CASES: usize = 400;
 const SIDES: [[u16; 2]; 8] = [[1, 1], [8, 8], [16, 4], [4, 16], [10, 6], [7, 9], [64, 1], [1, 64]];
 
-/// A call that a case can hold.
+/// The place of a case's number.
+const NUMBER: usize = 8;
+
+/// A call that a case can hold: its pitch, and that of the painting before it or else its own.
 struct Given {
     f: u32,
     old: Vec<u8>,
     new: Vec<u8>,
+    pitch: usize,
+    painted: usize,
     px: usize,
     scratch: usize,
 }
@@ -42,27 +51,50 @@ impl Given {
         let need = |bytes: &[u8]| Sheet::read(bytes).map_or(0, |sheet| sheet.need());
         let most = need(&self.old).max(need(&self.new));
         let long = self.old.len().div_ceil(4) + self.new.len().div_ceil(4);
-        long <= SHEETS && self.px <= PIXELS && self.scratch.max(if self.f == AFTER { most } else { 0 }) <= SCRATCH_WORDS
+        let words = u32::try_from(self.pitch).is_ok() && self.px <= WORDS && self.frame().is_none_or(|frame| frame.w * frame.h <= PIXELS);
+        long <= SHEETS && words && self.scratch.max(if self.f == AFTER { most } else { 0 }) <= SCRATCH_WORDS
     }
 
     fn expected(&self) -> Expected {
-        called((self.f != PAINT).then_some(&self.old), &self.new, self.px, self.scratch)
+        called((self.f != PAINT).then_some(&self.old), &self.new, self.pitch, self.px, self.scratch)
+    }
+
+    /// The frame that the old sheet is painted in before the call.
+    fn before(&self) -> Option<Frame> {
+        let old = Sheet::read(&self.old).ok().filter(|_| self.f == AFTER)?;
+        Some(Frame { w: old.w, h: old.h, pitch: self.painted })
+    }
+
+    /// The frame in which pixels stand after the call, other than those that run in equal steps.
+    fn frame(&self) -> Option<Frame> {
+        self.before().or(self.expected().frame())
+    }
+
+    /// Px before the call, where they run in equal steps before a painting.
+    fn given_px(&self, base: u32, step: u32) -> Vec<u32> {
+        let mut px = steps(self.px, base, step);
+        if let Some(frame) = self.before() {
+            frame.lay(&Sheet::read(&self.old).expect("a sound old sheet").fresh(), &mut px);
+        }
+        px
     }
 
     fn case(&self, random: &mut Random) -> Vec<u32> {
         assert!(self.fits());
         let (base, step) = (random.word(), random.word() | 1);
-        let steps: Vec<u32> = (0..self.px as u32).map(|i| base.wrapping_add(i.wrapping_mul(step))).collect();
-        let before = if self.f == AFTER { Sheet::read(&self.old).expect("a sound old sheet").fresh() } else { steps };
-        assert_eq!(before.len(), self.px);
         let expected = self.expected();
         let counted = expected.counted();
-        let After { answer: a, px, swept } = expected.after(&before, counted.as_ref());
-        assert!(self.f != AFTER || counted.is_none_or(|fresh| fresh.px == px));
-        let mut case = vec![self.f, self.old.len() as u32, self.new.len() as u32, self.px as u32, base, step, self.scratch as u32];
+        let After { answer: a, px, swept, .. } = expected.after(&self.given_px(base, step), counted.as_ref());
+        let rows = self.frame().map(|frame| (frame, frame.rows(&px)));
+        if let (AFTER, Some(fresh), Some((_, rows))) = (self.f, &counted, &rows) {
+            assert!(fresh.px == *rows);
+        }
+        assert!(self.frame().is_none_or(|frame| frame.same_past(&px, &steps(self.px, base, step))));
+        let mut case = vec![self.f, self.old.len() as u32, self.new.len() as u32, self.px as u32, base, step];
+        case.extend([self.scratch as u32, self.pitch as u32]);
         case.extend([a.number, a.item, a.x0 as u32, a.y0 as u32, a.x1 as u32, a.y1 as u32]);
         case.extend([a.steps, a.grounded, swept as u64].map(|n| u32::try_from(n).expect("a small number")));
-        case.extend(px);
+        case.extend(left(rows.as_ref().map(|(frame, rows)| (*frame, &rows[..]))));
         case.resize(WIDTH - SHEETS, 0);
         case.extend(words(&self.old));
         case.extend(words(&self.new));
@@ -76,12 +108,18 @@ fn sound(random: &mut Random) -> Made {
     make::on(random, sides, n, 8)
 }
 
-/// How many pixels and scratch words are lent: sometimes not as they must be.
-fn lent(sheet: &[u8], made: &Made, random: &mut Random) -> (usize, usize) {
-    let (area, need) = Sheet::read(sheet).map_or((made.area(), random.below(40) as usize), |s| (s.w * s.h, s.need()));
-    let px = if random.below(12) == 0 { random.of(&[area - 1, area + 1, 0]) } else { area };
+/// The pitch of a call in a frame, and how many words of px and scratch are lent: sometimes not as they must be.
+fn lent(sheet: &[u8], frame: &Frame, random: &mut Random) -> [usize; 3] {
+    let (words, need) = (frame.words(), Sheet::read(sheet).map_or(random.below(40) as usize, |s| s.need()));
+    let px = if random.below(12) == 0 { random.of(&[words - 1, words + 1, 0, words - (frame.pitch - frame.w)]) } else { words };
     let scratch = if random.below(6) == 0 { random.of(&[need.saturating_sub(1), 0]) } else { need + random.of(&[0, 0, 1, 9]) };
-    (px.min(PIXELS), scratch)
+    [if random.below(24) == 0 { frame.bad_pitch(random) } else { frame.pitch }, px, scratch]
+}
+
+/// A frame for the sheet that some bytes hold, or for another where they hold none.
+fn frame_of(sheet: &[u8], made: &Made, random: &mut Random) -> Frame {
+    let (w, h) = Sheet::read(sheet).map_or((made.w as usize, made.h as usize), |s| (s.w, s.h));
+    framed(w, h, random)
 }
 
 /// A sheet whose one item is a polygon or a chain of 63 to 66 points, or whose items are 15 to 18 pushes.
@@ -102,13 +140,14 @@ fn painting(random: &mut Random) -> Given {
         1..=10 => damaged(made.clone(), random),
         _ => made.bytes(),
     };
-    let (px, scratch) = lent(&new, &made, random);
-    Given { f: PAINT, old: vec![], new, px, scratch }
+    let [pitch, px, scratch] = lent(&new, &frame_of(&new, &made, random), random);
+    Given { f: PAINT, old: vec![], new, pitch, painted: pitch, px, scratch }
 }
 
-fn patching(kept: &Made, random: &mut Random) -> Given {
+/// A patch of the sheet that is kept in a frame.
+fn patching(kept: &Made, frame: &Frame, random: &mut Random) -> Given {
     let way = match random.below(8) {
-        0 | 1 => random.of(&[DAMAGED_NEW, DAMAGED_NEW, DAMAGED_OLD]),
+        0 | 1 => random.of(&[DAMAGED_NEW, DAMAGED_NEW, DAMAGED_OLD, PITCH]),
         2..=4 => change::way(random),
         _ => random.below(ONE_SHAPE as u32) as usize,
     };
@@ -116,22 +155,39 @@ fn patching(kept: &Made, random: &mut Random) -> Given {
     if random.below(16) == 0 {
         (old, new) = (Made { items: vec![], ..kept.clone() }.bytes(), many(kept, random).bytes());
     }
-    let (mut px, mut scratch) = lent(&new, kept, random);
+    let [mut pitch, mut px, mut scratch] = lent(&new, frame, random);
     match way {
-        PX => px = random.of(&[kept.area() - 1, 0]),
+        PX => px = random.of(&[frame.words() - 1, 0]),
         SCRATCH => scratch = 0,
+        PITCH if random.below(2) == 0 => pitch = frame.other_pitch(random),
+        PITCH => pitch = frame.bad_pitch(random),
         _ => (),
     }
-    let f = if way < APART && px == kept.area() && random.below(3) > 0 { AFTER } else { PATCH };
-    Given { f, old, new, px, scratch }
+    let f = if way < APART && px == frame.words() && random.below(3) > 0 { AFTER } else { PATCH };
+    Given { f, old, new, pitch, painted: frame.pitch, px, scratch }
 }
 
 /// Each number of a list stands in so many cases.
 fn all_stand(cases: &[Vec<u32>], numbers: &[u32], least: usize) {
     for number in numbers {
-        let times = cases.iter().filter(|case| case[7] == *number).count();
+        let times = cases.iter().filter(|case| case[NUMBER] == *number).count();
         assert!(times >= least, "number {number} stands {times} times");
     }
+}
+
+/// A sheet and the frame that it is kept in.
+fn in_frame(random: &mut Random) -> (Made, Frame) {
+    let made = sound(random);
+    let frame = framed(made.w as usize, made.h as usize, random);
+    (made, frame)
+}
+
+/// Holds about half of the accepted cases to stand in wider frames.
+fn wider(cases: &[Given]) {
+    let frames: Vec<Frame> = cases.iter().filter_map(|given| given.expected().frame()).collect();
+    let wider = frames.iter().filter(|frame| frame.is_wider()).count();
+    println!("{wider} of {} accepted calls in a wider frame", frames.len());
+    assert!(5 * wider > 2 * frames.len() && frames.iter().any(|frame| frame.pitch == 4096));
 }
 
 /// Holds the cases to have shown every sort of chain.
@@ -160,14 +216,16 @@ fn all_chains(cases: &[Given]) {
 pub fn paintings() -> Stored {
     fixed::check();
     let mut random = Random(SEED + 10);
-    let examples = fixed::paintings().into_iter().map(|p| Given { f: PAINT, old: vec![], new: p.sheet, px: p.px, scratch: p.scratch });
+    let example = |p: fixed::Painting| Given { f: PAINT, old: vec![], new: p.sheet, pitch: p.pitch, painted: p.pitch, px: p.px, scratch: p.scratch };
+    let examples = fixed::paintings().into_iter().map(example);
     let mut all: Vec<Given> = examples.filter(Given::fits).collect();
     while all.len() < CASES {
         all.extend(Some(painting(&mut random)).filter(Given::fits));
     }
     all_chains(&all);
     let cases: Vec<Vec<u32>> = all.iter().map(|given| given.case(&mut random)).collect();
-    all_stand(&cases, &[1, 2, 3, 4, 5, 6, 7, 8, 9, 13], 4);
+    all_stand(&cases, &[1, 2, 3, 4, 5, 6, 7, 8, 9, 13, 15], 4);
+    wider(&all);
     Stored { functions: PAINT..=PAINT, width: WIDTH, cases }
 }
 
@@ -175,16 +233,17 @@ pub fn paintings() -> Stored {
 pub fn patches() -> Stored {
     let mut random = Random(SEED + 11);
     let examples = fixed::patches().into_iter().map(|p| {
-        let sound = Sheet::read(&p.old).is_ok_and(|old| old.w * old.h == p.px);
-        Given { f: if sound { AFTER } else { PATCH }, old: p.old, new: p.new, px: p.px, scratch: p.scratch }
+        let sound = Sheet::read(&p.old).is_ok_and(|old| pitch_ok(old.w, p.pitch) && p.pitch * old.h == p.px);
+        let f = if sound { AFTER } else { PATCH };
+        Given { f, old: p.old, new: p.new, pitch: p.pitch, painted: p.pitch, px: p.px, scratch: p.scratch }
     });
     let mut all: Vec<Given> = examples.filter(Given::fits).collect();
-    let mut kept = sound(&mut random);
+    let (mut kept, mut frame) = in_frame(&mut random);
     while all.len() < CASES {
         if random.below(12) == 0 {
-            kept = sound(&mut random);
+            (kept, frame) = in_frame(&mut random);
         }
-        let given = patching(&kept, &mut random);
+        let given = patching(&kept, &frame, &mut random);
         if !given.fits() {
             continue;
         }
@@ -195,6 +254,11 @@ pub fn patches() -> Stored {
     }
     all_chains(&all);
     let cases: Vec<Vec<u32>> = all.iter().map(|given| given.case(&mut random)).collect();
-    all_stand(&cases, &[1, 2, 3, 4, 5, 6, 7, 8, 9, 10, 13], 2);
+    all_stand(&cases, &[1, 2, 3, 4, 5, 6, 7, 8, 9, 10, 13, 15], 2);
+    wider(&all);
+    for number in [8, 15] {
+        let other = |given: &&Given| given.f == AFTER && given.pitch != given.painted && given.expected().number == number;
+        assert!(all.iter().filter(other).count() > 1, "no patch in a list has another pitch that {number} refuses");
+    }
     Stored { functions: PAINT..=AFTER, width: WIDTH, cases }
 }
