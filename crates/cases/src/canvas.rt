@@ -1,5 +1,6 @@
-// Canvas calls: a case has the call, four words of arguments, the count of pixels with their base and step, the state (71 words), then the
-// number, four words of answer, the base and step of the pixels left, and the state left.
+// Canvas calls: a case has the call, four words of arguments, the count of the words of px with their base and step, the state (72 words), then
+// the number, four words of answer, what is left in px (a pitch, so many columns, and the value of the first words of each row), and the state
+// left.
 use crate::answer::color_of;
 use crate::boxes::irect;
 use crate::boxes::rect;
@@ -15,14 +16,16 @@ use gfx::Done;
 ghost use mathlib.Core.Path.{_≡_};
 ghost use lib.ListN.{length};
 
-// The canvas whose first six words are its sides and its clip.
+// The canvas whose first seven words are its sides, its pitch and its clip.
 pub fn framed(words: &[u8], saved: [IRect; 16], depth: usize) -> Canvas {
     let w = int(words, 0);
     let h = int(words, 1);
-    let clip = irect(from(words, 2));
+    let pitch = word(words, 2) as usize;
+    let clip = irect(from(words, 3));
     Canvas {
         w,
         h,
+        pitch,
         clip,
         saved,
         depth,
@@ -46,10 +49,10 @@ fn saved(words: &[u8]) -> [IRect; 16] {
     out
 }
 
-// The state of 71 words: sides, clip, depth, saved clips.
+// The state of 72 words: sides, pitch, clip, depth, saved clips.
 fn state(words: &[u8]) -> Canvas {
-    let depth = word(words, 6) as usize;
-    framed(words, saved(from(words, 7)), depth)
+    let depth = word(words, 7) as usize;
+    framed(words, saved(from(words, 8)), depth)
 }
 
 fn same_saved(a: [IRect; 16], b: [IRect; 16]) -> bool {
@@ -65,32 +68,33 @@ fn same_saved(a: [IRect; 16], b: [IRect; 16]) -> bool {
 pub fn same_state(a: Canvas, b: Canvas) -> bool {
     let p = a.saved;
     let q = b.saved;
-    let sides = (a.w == b.w) & (a.h == b.h) & (a.depth == b.depth);
-    sides & same_box(a.clip, b.clip) & same_saved(p, q)
+    let sides = (a.w == b.w) & (a.h == b.h) & (a.pitch == b.pitch);
+    sides & (a.depth == b.depth) & same_box(a.clip, b.clip) & same_saved(p, q)
 }
 
-// Whether a call that returns a state answered as stored: the number, four zeros, and, past the base and step of the pixels, the state.
+// Whether a call that returns a state answered as stored: the number, four zeros, and, past what is left in px, the state.
 fn same_done(d: Done, case: &[u8]) -> bool {
-    let none = same_box(IRect::ZERO, irect(from(case, 80)));
-    (d.number == word(case, 79)) & none & same_state(d.canvas, state(from(case, 86)))
+    let none = same_box(IRect::ZERO, irect(from(case, 81)));
+    (d.number == word(case, 80)) & none & same_state(d.canvas, state(from(case, 88)))
 }
 
 // Whether the stored state is the given one.
 fn kept(case: &[u8]) -> bool {
-    same_state(state(from(case, 8)), state(from(case, 86)))
+    same_state(state(from(case, 8)), state(from(case, 88)))
 }
 
 fn same_boxed(b: Boxed, case: &[u8]) -> bool {
-    (b.number == word(case, 79)) & same_box(b.area, irect(from(case, 80))) & kept(case)
+    (b.number == word(case, 80)) & same_box(b.area, irect(from(case, 81))) & kept(case)
 }
 
 fn same_pixel(p: Pixel, case: &[u8]) -> bool {
-    let said = (p.number == word(case, 79)) & (p.value == word(case, 80));
-    said & (word(case, 81) == 0) & (word(case, 82) == 0) & (word(case, 83) == 0)
+    let said = (p.number == word(case, 80)) & (p.value == word(case, 81));
+    said & (word(case, 82) == 0) & (word(case, 83) == 0) & (word(case, 84) == 0)
 }
 
 fn made(case: &[u8], px: &mut [u32]) -> bool {
-    same_done(Canvas::new(int(case, 1), int(case, 2), px), case)
+    let pitch = word(case, 3) as usize;
+    same_done(Canvas::new(int(case, 1), int(case, 2), pitch, px), case)
 }
 
 fn resized(case: &[u8], px: &mut [u32]) -> bool {

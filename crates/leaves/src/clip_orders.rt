@@ -61,7 +61,7 @@ fn leaves(lent: usize, k: usize, number: u32, sheet: &[u8]) -> bool {
 fn paints(sheet: &[u8], case: &[u8]) -> bool {
     let mut px = [0x1234_5678; 16];
     let mut scratch = [0.0; 0];
-    let a = paint(sheet, &mut px, &mut scratch).answer;
+    let a = paint(sheet, 4, &mut px, &mut scratch).answer;
     let whole = same_box(a.area, IRect::new(0, 0, 4, 4));
     (a.number == 0) & (a.item == 0) & whole & same_words(&px, from(case, 1))
 }

@@ -4,7 +4,7 @@ use crate::clip_orders;
 use crate::lent::as_stored;
 use crate::lent::fill;
 use crate::lent::pixels;
-use crate::lent::same_steps;
+use crate::lent::same_frame;
 use crate::lent::scratch;
 use crate::sheets;
 use cases::canvas;
@@ -30,19 +30,19 @@ fn width(area: u32, bytes: &[u8]) -> u32
         0 => 6,
         1 => 8,
         2 => 13,
-        3 => 157,
+        3 => 160,
         4 => 10,
-        5 => 99,
-        6 | 7 => 251,
+        5 => 102,
+        6 | 7 => 254,
         _ => 17 + word(bytes, 0) % 65536 / 4,
     }
 }
 
-// What of a case says which pixels a call is lent: their count, base and step.
+// What of a case says which words of px a call is lent: their count, base and step.
 fn lent(area: u32, case: &[u8]) -> &[u8] {
     match area {
         3 => from(case, 5),
-        5 => from(case, 29),
+        5 => from(case, 30),
         _ => from(case, 3),
     }
 }
@@ -58,7 +58,7 @@ fn lent_scratch(area: u32, case: &[u8]) -> usize
 // Whether a shape call answers as stored: number and steps.
 fn shaped(case: &[u8], px: &mut [u32], scratch: &mut [f32]) -> bool {
     let told = shape_cases::shape(case, px, scratch);
-    (told.number == word(case, 97)) & (told.steps == word(case, 98) as u64)
+    (told.number == word(case, 100)) & (told.steps == word(case, 101) as u64)
 }
 
 // Whether a call answers as stored.
@@ -70,12 +70,13 @@ fn said(area: u32, case: &[u8], px: &mut [u32], scratch: &mut [f32]) -> bool {
     }
 }
 
-// Whether a call left pixels and scratch as stored.
+// Whether a call left px and scratch as stored.
 fn left(area: u32, case: &[u8], px: &[u32], scratch: &[f32]) -> bool {
+    let steps = from(lent(area, case), 1);
     match area {
-        3 => same_steps(px, from(case, 84)),
-        5 => as_stored(px, scratch, from(case, 32)),
-        _ => as_stored(px, scratch, from(case, 15)),
+        3 => same_frame(px, steps, from(case, 85), 0),
+        5 => as_stored(px, scratch, steps, from(case, 33)),
+        _ => as_stored(px, scratch, steps, from(case, 16)),
     }
 }
 
@@ -86,7 +87,7 @@ fn on_pixels(area: u32, case: &[u8], px: &mut [u32], scratch: &mut [f32]) -> boo
 
 // Whether a call on pixels does what is stored.
 fn drawn(area: u32, case: &[u8]) -> bool {
-    let n = least(word(lent(area, case), 0) as usize, 2048);
+    let n = least(word(lent(area, case), 0) as usize, 4096);
     let m = lent_scratch(area, case);
     let mut space = pixels();
     let mut scratch = scratch();

@@ -6,10 +6,10 @@ use cases::word::word;
 ghost use mathlib.Core.Path.{_≡_};
 ghost use lib.ListN.{length};
 
-pub(crate) fn pixels() -> [u32; 2048]
-    ensures { λ r. ⌜ 2048 ≡ length r ⌝ }
+pub(crate) fn pixels() -> [u32; 4096]
+    ensures { λ r. ⌜ 4096 ≡ length r ⌝ }
 {
-    [0; 2048]
+    [0; 4096]
 }
 
 pub(crate) fn scratch() -> [f32; 4096]
@@ -19,7 +19,7 @@ pub(crate) fn scratch() -> [f32; 4096]
     [nan; 4096]
 }
 
-// Pixels that run in equal steps: the base and the step are the first two words.
+// Px that run in equal steps: the base and the step are the first two words.
 pub(crate) fn fill(px: &mut [u32], words: &[u8]) {
     let mut v = word(words, 0);
     let step = word(words, 1);
@@ -29,14 +29,42 @@ pub(crate) fn fill(px: &mut [u32], words: &[u8]) {
     }
 }
 
-// Whether the pixels run so.
-pub(crate) fn same_steps(px: &[u32], words: &[u8]) -> bool {
-    let mut v = word(words, 0);
-    let step = word(words, 1);
+// The column after x in rows of so many words.
+fn next_column(x: u32, pitch: u32) -> u32 {
+    let y = std::num::wrapping_add_u32(x, 1);
+    if y < pitch { y } else { 0 }
+}
+
+// What a word must be: in the first columns a stored one, past them what it was.
+fn expected(words: &[u8], first: bool, place: u32, was: u32) -> u32 {
+    if first { word(words, place) } else { was }
+}
+
+// The place of the next stored word.
+fn next_place(first: bool, place: u32, more: u32) -> u32 {
+    if first {
+        std::num::wrapping_add_u32(place, more)
+    } else {
+        place
+    }
+}
+
+// Whether px are left as stored. The words are a pitch, so many columns, and what the first words of each row then are: `more` is 1 where each
+// has its own, 0 where all are one. All other words run in equal steps, as before the call.
+pub(crate) fn same_frame(px: &[u32], steps: &[u8], words: &[u8], more: u32) -> bool {
+    let mut v = word(steps, 0);
+    let step = word(steps, 1);
+    let pitch = word(words, 0);
+    let columns = word(words, 1);
+    let mut x: u32 = 0;
+    let mut place: u32 = 2;
     let mut same = true;
     for i in 0..px.len() {
-        same = same & (px[i] == v);
+        let first = x < columns;
+        same = same & (px[i] == expected(words, first, place, v));
         v = std::num::wrapping_add_u32(v, step);
+        place = next_place(first, place, more);
+        x = next_column(x, pitch);
     }
     same
 }
@@ -66,8 +94,8 @@ fn swept(scratch: &[f32], need: usize) -> bool {
     same
 }
 
-// Whether scratch and pixels are left as stored: the words of scratch that are +0, then the pixels.
-pub(crate) fn as_stored(px: &[u32], scratch: &[f32], words: &[u8]) -> bool {
+// Whether scratch and px are left as stored: the words of scratch that are +0, then what is left in px.
+pub(crate) fn as_stored(px: &[u32], scratch: &[f32], steps: &[u8], words: &[u8]) -> bool {
     let need = word(words, 0) as usize;
-    swept(scratch, need) & same_words(px, from(words, 1))
+    swept(scratch, need) & same_frame(px, steps, from(words, 1), 1)
 }

@@ -11,7 +11,7 @@ use redraw::Reply;
 
 // The old sheet of a patch.
 fn old_sheet(case: &[u8]) -> &[u8] {
-    upto(from(case, 80), word(case, 1))
+    upto(from(case, 83), word(case, 1))
 }
 
 // How many words n bytes fill.
@@ -21,7 +21,7 @@ fn words(n: u32) -> u32 {
 
 // The sheet that is painted, or the new one of a patch: it stands after the old one.
 fn new_sheet(case: &[u8]) -> &[u8] {
-    let sheets = from(case, 80);
+    let sheets = from(case, 83);
     upto(from(sheets, words(word(case, 1))), word(case, 2))
 }
 
@@ -34,20 +34,23 @@ fn same_reply(r: Reply, words: &[u8]) -> bool {
 }
 
 fn painted(case: &[u8], px: &mut [u32], scratch: &mut [f32]) -> bool {
-    same_reply(paint(new_sheet(case), px, scratch), from(case, 7))
+    let pitch = word(case, 7) as usize;
+    same_reply(paint(new_sheet(case), pitch, px, scratch), from(case, 8))
 }
 
 fn patched(case: &[u8], px: &mut [u32], scratch: &mut [f32]) -> bool {
+    let pitch = word(case, 7) as usize;
     same_reply(
-        patch(old_sheet(case), new_sheet(case), px, scratch),
-        from(case, 7),
+        patch(old_sheet(case), new_sheet(case), pitch, px, scratch),
+        from(case, 8),
     )
 }
 
-// Paints the old sheet with scratch of its own.
+// Paints the old sheet, at the pitch of the rows that are left, with scratch of its own.
 fn paint_old(case: &[u8], px: &mut [u32]) {
+    let pitch = word(case, 17) as usize;
     let mut scratch = scratch();
-    paint(old_sheet(case), px, &mut scratch);
+    paint(old_sheet(case), pitch, px, &mut scratch);
 }
 
 // Whether the call of a case answers as stored.

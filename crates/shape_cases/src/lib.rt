@@ -1,6 +1,7 @@
-// Shape calls: a case has the function, two sides, four words of clip, the paint's kind or `skip_inside`, four floats and two colours of a
-// paint, a radius, a width or blur, the count of coordinates, 12 of them, the count, base and step of the pixels, the words of scratch that
-// are left +0, 64 pixels, the number, and the steps that altered a pixel's value. Coordinates past the 12 are the words that follow.
+// Shape calls: a case has the function, two sides, a pitch, four words of clip, the paint's kind or `skip_inside`, four floats and two colours
+// of a paint, a radius, a width or blur, the count of coordinates, 12 of them, the count, base and step of px, the words of scratch that are
+// left +0, what is left in px (a pitch, so many columns, up to 64 pixels), the number, and the steps that altered a pixel's value. Coordinates
+// past the 12 are the words that follow.
 use cases::canvas::framed;
 use cases::canvas::none_saved;
 use cases::canvas::same_state;
@@ -25,15 +26,15 @@ fn canvas(case: &[u8]) -> Canvas {
 }
 
 fn brush(case: &[u8]) -> Paint {
-    paint(word(case, 7), from(case, 8))
+    paint(word(case, 8), from(case, 9))
 }
 
 fn ink(case: &[u8]) -> Color {
-    color_of(word(case, 12))
+    color_of(word(case, 13))
 }
 
 fn place(case: &[u8]) -> Rect {
-    rect(from(case, 17))
+    rect(from(case, 18))
 }
 
 // What a shape call tells: its number, or 99 where it does not leave the state as it was, and its steps that altered a pixel's value.
@@ -56,16 +57,16 @@ fn answer(d: Counted, case: &[u8]) -> Told {
 }
 
 fn lined(case: &[u8], px: &mut [u32]) -> Told {
-    let width = float(case, 15);
-    let a = point(from(case, 17));
-    let b = point(from(case, 19));
+    let width = float(case, 16);
+    let a = point(from(case, 18));
+    let b = point(from(case, 20));
     let ink = ink(case);
     answer(line::line(canvas(case), px, a, b, width, ink), case)
 }
 
 fn outlined(case: &[u8], px: &mut [u32]) -> Told {
-    let r = float(case, 14);
-    let width = float(case, 15);
+    let r = float(case, 15);
+    let width = float(case, 16);
     let ink = ink(case);
     let at = place(case);
     answer(
@@ -75,9 +76,9 @@ fn outlined(case: &[u8], px: &mut [u32]) -> Told {
 }
 
 fn ringed(case: &[u8], px: &mut [u32]) -> Told {
-    let r = float(case, 14);
-    let width = float(case, 15);
-    let c = point(from(case, 17));
+    let r = float(case, 15);
+    let width = float(case, 16);
+    let c = point(from(case, 18));
     let ink = ink(case);
     answer(
         stroke::ring(canvas(case), px, c.x, c.y, r, width, ink),
@@ -86,9 +87,9 @@ fn ringed(case: &[u8], px: &mut [u32]) -> Told {
 }
 
 fn shadowed(case: &[u8], px: &mut [u32]) -> Told {
-    let skip = word(case, 7) == 1;
-    let r = float(case, 14);
-    let blur = float(case, 15);
+    let skip = word(case, 8) == 1;
+    let r = float(case, 15);
+    let blur = float(case, 16);
     let ink = ink(case);
     let at = place(case);
     answer(
@@ -98,7 +99,7 @@ fn shadowed(case: &[u8], px: &mut [u32]) -> Told {
 }
 
 fn rounded(case: &[u8], px: &mut [u32]) -> Told {
-    let r = float(case, 14);
+    let r = float(case, 15);
     let at = place(case);
     let paint = brush(case);
     answer(fill::fill_rrect(canvas(case), px, at, r, paint), case)
@@ -111,8 +112,8 @@ fn rectangle(case: &[u8], px: &mut [u32]) -> Told {
 }
 
 fn circle(case: &[u8], px: &mut [u32]) -> Told {
-    let r = float(case, 14);
-    let c = point(from(case, 17));
+    let r = float(case, 15);
+    let c = point(from(case, 18));
     let paint = brush(case);
     answer(
         fill::fill_circle(canvas(case), px, c.x, c.y, r, paint),
@@ -121,7 +122,7 @@ fn circle(case: &[u8], px: &mut [u32]) -> Told {
 }
 
 fn polyline(case: &[u8], px: &mut [u32], pts: &[f32]) -> Told {
-    let width = float(case, 15);
+    let width = float(case, 16);
     let ink = ink(case);
     answer(line::polyline(canvas(case), px, pts, width, ink), case)
 }
@@ -145,8 +146,8 @@ fn points(words: &[u8]) -> [f32; 130]
 }
 
 fn joined(case: &[u8], px: &mut [u32], scratch: &mut [f32]) -> Told {
-    let n = least(word(case, 16) as usize, 130);
-    let space = points(from(case, 17));
+    let n = least(word(case, 17) as usize, 130);
+    let space = points(from(case, 18));
     if word(case, 0) == 2 {
         polyline(case, px, &space[..n])
     } else {
