@@ -40,6 +40,7 @@ pub fn paintings() -> Vec<Painting> {
     add("widest_canvas", made(2048, 1, vec![]).bytes(), 2048, 2048, 0, 0, 0);
     add("widest_canvas_cut", made(2048, 1, vec![]).bytes(), 2047, 2047, 0, 15, 0);
     add("widest_canvas_in_a_frame", made(2048, 1, vec![]).bytes(), 4096, 4096, 0, 0, 0);
+    add("largest_frame", made(2048, 2048, vec![square()]).bytes(), 4096, 4096 * 2048, 26, 0, 0);
     // Px is pitch × h words: the last row is whole too.
     add("last_row_cut", high(), 7, 2 * 7 + 4, 0, 8, 0);
     add("a_word_less", high(), 7, 20, 0, 8, 0);

@@ -67,7 +67,7 @@ struct Run {
     rooms: Rooms,
     compared: Compared,
     differ: u64,
-    pixels: u64,
+    words: u64,
 }
 
 impl Run {
@@ -91,7 +91,7 @@ impl Run {
             (Some(sheet), Some(counted)) => self.chains.painted(sheet, counted),
             _ => self.chains.refused(&given.sheet, &expected),
         }
-        self.pixels += after.px.len() as u64;
+        self.words += after.px.len() as u64;
         if let Some(what) = self.compared.fault(&left, &after, &scratch) {
             let lent = format!("pitch {} px {} scratch {}", given.pitch, given.px, given.scratch);
             self.differs(format!("{name} differs in {what}: {:?} instead of {:?}, {lent}", left.answer, after.answer), &given.sheet);
@@ -195,7 +195,7 @@ fn main() {
     }
     let lacks = run.lacks(to - from);
     println!("rooms: {}", run.rooms.beside(&fixed));
-    let (cases, compared) = (to - from + examples, format!("{} pixels, {}", run.pixels, run.compared.told()));
+    let (cases, compared) = (to - from + examples, format!("{} words of px, {}", run.words, run.compared.told()));
     println!("sheets: {cases} cases, {compared}, {}, {} differences", run.chains.share(), run.differ);
     if run.differ > 0 || lacks {
         exit(1);

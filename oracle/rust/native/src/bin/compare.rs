@@ -231,7 +231,7 @@ fn same_shape(words: &[u32], need: usize, px: &mut [u32], after: &[u32], steps: 
 }
 
 /// A call with one thing wrong, or two: whether it is refused by its number and alters nothing. None where it is not refused.
-fn same_refusal(mut call: Call, scene: &Scene, random: &mut Random) -> Option<(u32, bool)> {
+fn same_refusal(mut call: Call, scene: &Scene, px: &mut Lent, random: &mut Random) -> Option<(u32, bool)> {
     let (canvas, frame) = (&scene.canvas, scene.frame);
     let (sides, clip) = ([canvas.w, canvas.h], canvas.clip());
     let mut given = Given { sides, pitch: frame.pitch, clip, px: frame.words(), scratch: call.need() };
@@ -240,21 +240,27 @@ fn same_refusal(mut call: Call, scene: &Scene, random: &mut Random) -> Option<(u
     if number == 0 {
         return None;
     }
-    let before = frame::steps(given.px, random.word(), random.word());
-    let (mut px, mut scratch) = (before.clone(), vec![f32::NAN; given.scratch]);
+    let (before, mut scratch) = (frame::steps(given.px, random.word(), random.word()), vec![f32::NAN; given.scratch]);
+    px.lend(bytes(&before), random.below(4) == 0);
     let words = call.words_on(given.sides, given.pitch, given.clip);
-    let said = native::shape(&native::bytes(&words), &mut px, &mut scratch);
-    let kept = scratch.iter().all(|x| x.to_bits() == f32::NAN.to_bits());
-    Some((number, said == Drawn { number, steps: 0 } && px == before && kept))
+    let said = native::shape(&native::bytes(&words), px.words(), &mut scratch);
+    let kept = scratch.iter().all(|x| x.to_bits() == f32::NAN.to_bits()) && px.back() == (bytes(&before), true);
+    Some((number, said == Drawn { number, steps: 0 } && kept))
 }
 
-/// Px of a scene: lent to the proved functions, and as they must be.
+/// Px of a scene: lent to the proved functions, and as they must be; and room for those of a call that is refused.
 struct Px {
     lent: Lent,
     whole: Vec<u32>,
+    refused: Lent,
 }
 
 impl Px {
+    fn new() -> Px {
+        let [lent, refused] = [(); 2].map(|_| Lent::new(4 * frame::SELDOM));
+        Px { lent, whole: vec![], refused }
+    }
+
     /// The canvas of a scene in its frame, ending at a page that cannot be touched, or, one time in four, beginning at one.
     fn begin(&mut self, scene: &Scene, random: &mut Random) {
         self.whole = scene.frame.laid(&scene.canvas.px, random);
@@ -282,7 +288,7 @@ impl Seen {
         let call = scene.next(random);
         let (words, f) = (call.words(&scene.canvas, scene.frame.pitch), call.f as usize - 1);
         if random.below(8) == 0 {
-            if let Some((number, same)) = same_refusal(call.clone(), scene, random) {
+            if let Some((number, same)) = same_refusal(call.clone(), scene, &mut px.refused, random) {
                 self.refused[number as usize] += 1;
                 self.wrong += !same as u64;
             }
@@ -332,7 +338,7 @@ impl Seen {
 /// Sequences of shapes on one canvas, every word of px compared after each call, and its steps.
 fn shapes(run: &mut Run, random: &mut Random, calls: u64) {
     let (began, mut seen) = (Instant::now(), Seen::default());
-    let mut px = Px { lent: Lent::new(4 * frame::SELDOM), whole: vec![] };
+    let mut px = Px::new();
     while seen.ran.iter().sum::<u64>() < calls {
         let mut scene = Scene::new(random);
         px.begin(&scene, random);
