@@ -1,5 +1,5 @@
-/* Measures and paints a small ticket, patches it, draws it call by call, counts steps, lets a trace grow, takes every small clip order, and
- * checks every answer. The counts are worked out by hand, or by the pixels that differ.
+/* Measures and paints a small ticket, patches it, draws it call by call, counts steps, does the same within a wider frame, lets a trace grow,
+ * takes every small clip order, and checks every answer. The counts are worked out by hand, or by the pixels that differ.
  *
  *   cc -std=c11 -Wall -Wextra -Werror -I bindings/c bindings/c/example.c -L target/staticlib -lmaldjupp -o example */
 #include "maldjupp.h"
@@ -159,7 +159,7 @@ static int fill_call(float x, float y, float w, float h, uint32_t rgb) {
 /* The ticket of `ticket`, call by call. */
 static int ticket_calls(uint32_t grade, float bar, float *scratch, size_t words) {
     const float corner[] = {17, 3, 21, 3, 17, 7};
-    return took(maldjupp_new(W, H, px2, W * H)) && took(maldjupp_clear(canvas, px2, W * H, hex(0xDEDBD2))) &&
+    return took(maldjupp_new(W, H, W, px2, W * H)) && took(maldjupp_clear(canvas, px2, W * H, hex(0xDEDBD2))) &&
            fill_call(1, 1, 22, 14, 0xFDFCF8) && fill_call(3, 3, 5, 5, grade) && fill_call(3, 11, bar, 2, 0x207A4E) &&
            drew(maldjupp_fill_poly(canvas, px2, W * H, corner, 6, maldjupp_solid(hex(0x3A6292)), scratch, words));
 }
@@ -216,8 +216,8 @@ static void rooms(void) {
     /* The triangle's box is 4 by 4, made 2 larger: (6 + 2) * 6 + 2 words. The clip leaves 10 by 6 of the fill. */
     check("50 words, 2 clips at once, 60 and 36 pixels", is_room(maldjupp_measure(sheet, n), MALDJUPP_ACCEPTED, 0, 50, 2, 60 + 36));
     /* Of the triangle, 4, 3, 2 and 1 pixels of a row are covered, the last of each by half. */
-    check("so many words are enough", is_altered(maldjupp_paint(sheet, n, px, W * H, scratch, 50), 0, 0, W, H, 60 + 10, W * H));
-    check("one fewer: refused 9", is_refused(maldjupp_paint(sheet, n, px, W * H, scratch, 49), MALDJUPP_SCRATCH, 0));
+    check("so many words are enough", is_altered(maldjupp_paint(sheet, n, W, px, W * H, scratch, 50), 0, 0, W, H, 60 + 10, W * H));
+    check("one fewer: refused 9", is_refused(maldjupp_paint(sheet, n, W, px, W * H, scratch, 49), MALDJUPP_SCRATCH, 0));
     check("11 bytes measured: refused 1, three zeros", is_room(maldjupp_measure(sheet, 11), MALDJUPP_SHEET_LENGTH, 0, 0, 0, 0));
     for (int i = 0; i < 16; i++) push(&s, 0, 0, W, H);
     n = bytes_of(&s, W, H, 0xDEDBD2, sheet);
@@ -292,11 +292,11 @@ static void shapes(void) {
           drew(maldjupp_shadow_rrect(canvas, px2, W * H, inner, 1, 2, black, true)) && at(12, 8) == 0xFFFFFF && at(4, 8) < 0xFFFFFF);
     check("and with it", drew(maldjupp_shadow_rrect(canvas, px2, W * H, inner, 1, 2, black, false)) && at(12, 8) < 0xFFFFFF);
     check("another size: pixels of 0",
-          took(maldjupp_resize(canvas, H, W, px2, W * H)) && is_box(maldjupp_bounds(canvas), 0, 0, 0, H, W) && at(12, 8) == 0);
+          took(maldjupp_resize(canvas, H, H, px2, W * H)) && is_box(maldjupp_bounds(canvas), 0, 0, 0, H, H) && at(12, 8) == 0);
 }
 
 /* A new canvas, all white. */
-static int whitened(void) { return took(maldjupp_new(W, H, px2, W * H)) && took(maldjupp_clear(canvas, px2, W * H, hex(0xFFFFFF))); }
+static int whitened(void) { return took(maldjupp_new(W, H, W, px2, W * H)) && took(maldjupp_clear(canvas, px2, W * H, hex(0xFFFFFF))); }
 
 /* How many steps of a shape alter a pixel, and how many bytes the answers have. */
 static void counts(void) {
@@ -307,9 +307,10 @@ static void counts(void) {
     const struct maldjupp_brush clear = maldjupp_solid(maldjupp_rgba(0, 0, 0, 0));
     check("an answer has 40 bytes, its counts at 24 and 32",
           sizeof(struct maldjupp_reply) == 40 && offsetof(struct maldjupp_reply, steps) == 24 && offsetof(struct maldjupp_reply, grounded) == 32);
-    check("a shape's has 304, its count at 296",
-          sizeof(struct maldjupp_counted) == 304 && offsetof(struct maldjupp_counted, canvas) == 8 &&
-              offsetof(struct maldjupp_counted, steps) == 296);
+    check("a shape's has 312, its count at 304",
+          sizeof(struct maldjupp_counted) == 312 && offsetof(struct maldjupp_counted, canvas) == 8 &&
+              offsetof(struct maldjupp_counted, steps) == 304);
+    check("a state has 296, its pitch at 8", sizeof(struct maldjupp_canvas) == 296 && offsetof(struct maldjupp_canvas, pitch) == 8);
     check("a fill of 5 by 4: 20 steps", whitened() && fill_call(2, 3, 5, 4, copper) && counted == 20);
     check("the same again: 0", fill_call(2, 3, 5, 4, copper) && counted == 0);
     check("a part of it over: 6", fill_call(3, 4, 3, 2, brass) && counted == 6);
@@ -334,22 +335,22 @@ static void traces(void) {
     static uint32_t px[W * H], fresh[W * H], apart[W * H], paper[W * H];
     float none = 0;
     size_t n = trace(0, old), m, grown = 0, alike = 0, same = 0;
-    maldjupp_paint(old, n, px, W * H, &none, 0), memcpy(paper, px, sizeof px);
+    maldjupp_paint(old, n, W, px, W * H, &none, 0), memcpy(paper, px, sizeof px);
     for (size_t points = 1; points <= POINTS; points++) {
-        m = trace(points, new), grown += maldjupp_patch(old, n, new, m, px, W * H, &none, 0).number == MALDJUPP_ACCEPTED;
-        uint64_t steps = maldjupp_paint(new, m, fresh, W * H, &none, 0).steps;
-        memcpy(old, new, n = m), m = trace_lines(points, lines), same += maldjupp_paint(lines, m, apart, W * H, &none, 0).steps == steps;
+        m = trace(points, new), grown += maldjupp_patch(old, n, new, m, W, px, W * H, &none, 0).number == MALDJUPP_ACCEPTED;
+        uint64_t steps = maldjupp_paint(new, m, W, fresh, W * H, &none, 0).steps;
+        memcpy(old, new, n = m), m = trace_lines(points, lines), same += maldjupp_paint(lines, m, W, apart, W * H, &none, 0).steps == steps;
         alike += memcmp(px, fresh, sizeof px) == 0 && memcmp(px, apart, sizeof px) == 0;
     }
     check("a trace grows: it is as painted fresh, and as lines", grown == POINTS && alike == POINTS);
     check("its steps are those of the lines", same == POINTS);
     m = trace(2, new);
-    struct maldjupp_reply r = maldjupp_patch(old, n, new, m, px, W * H, &none, 0);
+    struct maldjupp_reply r = maldjupp_patch(old, n, new, m, W, px, W * H, &none, 0);
     /* All of the box, 22 by 13, is on the paper. One line is left, which takes one step at a pixel. */
     check("back to 2: the box around the whole of it", is_altered(r, 1, 1, 23, 14, 286 + differing(px, paper, W * H), 286));
     memcpy(fresh, px, sizeof px), memcpy(old, new, n = m), m = trace(65, new);
     check("65 points: refused 13 at item 2",
-          is_refused(maldjupp_patch(old, n, new, m, px, W * H, &none, 0), MALDJUPP_POINTS, 2) && memcmp(px, fresh, sizeof px) == 0);
+          is_refused(maldjupp_patch(old, n, new, m, W, px, W * H, &none, 0), MALDJUPP_POINTS, 2) && memcmp(px, fresh, sizeof px) == 0);
 }
 
 static int is_written(struct maldjupp_written w, uint32_t number, size_t len) { return w.number == number && w.item == 0 && w.len == len; }
@@ -376,7 +377,7 @@ static void orders(void) {
         another += memcmp(sheet, last, ROOM) != 0;
         /* White alters a pixel once, since it covers; black ground alters those that the order before left white. */
         uint64_t before = differing(px, black, 16);
-        struct maldjupp_reply r = maldjupp_paint(sheet, n, px, 16, &none, 0);
+        struct maldjupp_reply r = maldjupp_paint(sheet, n, 4, px, 16, &none, 0);
         painted += is_altered(r, 0, 0, 4, 4, differing(px, black, 16), before);
         memcpy(last, sheet, ROOM), bytes += n, memcpy(sheet, marks, ROOM);
         refused += is_written(maldjupp_clip_order(k, sheet, n - 1), MALDJUPP_BUFFER, 0) && memcmp(sheet, marks, ROOM) == 0;
@@ -392,7 +393,7 @@ static void orders(void) {
     check("also where there is no room: 23 before 19", is_written(maldjupp_clip_order(SIZE_MAX, sheet, 0), MALDJUPP_ORDER, 0));
     check("refused, the buffer is not altered", memcmp(sheet, marks, ROOM) == 0);
     check("number 6 is push and fill: four pixels",
-          is_written(maldjupp_clip_order(6, sheet, ROOM), MALDJUPP_ACCEPTED, 92) && maldjupp_paint(sheet, 92, px, 16, &none, 0).number == 0 &&
+          is_written(maldjupp_clip_order(6, sheet, ROOM), MALDJUPP_ACCEPTED, 92) && maldjupp_paint(sheet, 92, 4, px, 16, &none, 0).number == 0 &&
               px[0] == 0 && px[5] == 0xFFFFFF && px[6] == 0xFFFFFF && px[9] == 0xFFFFFF && px[10] == 0xFFFFFF && px[2] == 0 && px[15] == 0);
 }
 
@@ -401,38 +402,38 @@ static void patches(float *scratch, size_t words) {
     static uint8_t old[MOST], new[MOST];
     static uint32_t px[W * H], fresh[W * H], before[W * H];
     size_t n = ticket(copper, 9, old), m = ticket(copper, 12, new);
-    check("painted: 0, the whole canvas", is_altered(maldjupp_paint(old, n, px, W * H, scratch, words), 0, 0, W, H, 308 + 25 + 18 + 10, W * H));
+    check("painted: 0, the whole canvas", is_altered(maldjupp_paint(old, n, W, px, W * H, scratch, words), 0, 0, W, H, 308 + 25 + 18 + 10, W * H));
     px[0] |= 0xFF000000;
     check("once more: the same steps, paper and a byte grounded",
-          is_altered(maldjupp_paint(old, n, px, W * H, scratch, words), 0, 0, W, H, 308 + 25 + 18 + 10, 308 + 1));
+          is_altered(maldjupp_paint(old, n, W, px, W * H, scratch, words), 0, 0, W, H, 308 + 25 + 18 + 10, 308 + 1));
     check("ground, paper, grade and bar", px[0] == 0xDEDBD2 && px[2 * W + 2] == 0xFDFCF8 && px[5 * W + 5] == copper && px[11 * W + 11] == 0x207A4E);
     check("the bar ends where it should", px[11 * W + 12] == 0xFDFCF8);
 
-    check("bar patched: its box", is_altered(maldjupp_patch(old, n, new, m, px, W * H, scratch, words), 3, 11, 15, 13, 24 + 24, 24));
-    maldjupp_paint(new, m, fresh, W * H, scratch, words);
+    check("bar patched: its box", is_altered(maldjupp_patch(old, n, new, m, W, px, W * H, scratch, words), 3, 11, 15, 13, 24 + 24, 24));
+    maldjupp_paint(new, m, W, fresh, W * H, scratch, words);
     check("the pixels are those of a fresh painting", memcmp(px, fresh, sizeof px) == 0 && px[11 * W + 14] == 0x207A4E);
 
     memcpy(old, new, n = m), m = ticket(brass, 12, new);
-    check("grade patched: its box", is_altered(maldjupp_patch(old, n, new, m, px, W * H, scratch, words), 3, 3, 8, 8, 25 + 25, 25));
+    check("grade patched: its box", is_altered(maldjupp_patch(old, n, new, m, W, px, W * H, scratch, words), 3, 3, 8, 8, 25 + 25, 25));
     check("the grade is brass", px[5 * W + 5] == brass);
 
     memcpy(old, new, n = m), m = ticket(copper, 8, new);
     check("grade and bar at once: the box around both",
-          is_altered(maldjupp_patch(old, n, new, m, px, W * H, scratch, words), 3, 3, 15, 13, 120 + 25 + 16, 120));
-    maldjupp_paint(new, m, fresh, W * H, scratch, words);
+          is_altered(maldjupp_patch(old, n, new, m, W, px, W * H, scratch, words), 3, 3, 15, 13, 120 + 25 + 16, 120));
+    maldjupp_paint(new, m, W, fresh, W * H, scratch, words);
     check("the pixels are those of a fresh painting", memcmp(px, fresh, sizeof px) == 0 && px[5 * W + 5] == copper);
 
     memcpy(old, new, n = m), m = ticket(brass, 12, new);
-    check("and back", is_altered(maldjupp_patch(old, n, new, m, px, W * H, scratch, words), 3, 3, 15, 13, 120 + 25 + 24, 120));
-    check("nothing differs: an empty box", is_altered(maldjupp_patch(new, m, new, m, px, W * H, scratch, words), 0, 0, 0, 0, 0, 0));
+    check("and back", is_altered(maldjupp_patch(old, n, new, m, W, px, W * H, scratch, words), 3, 3, 15, 13, 120 + 25 + 24, 120));
+    check("nothing differs: an empty box", is_altered(maldjupp_patch(new, m, new, m, W, px, W * H, scratch, words), 0, 0, 0, 0, 0, 0));
 
-    n = pile(33, 4, old), m = pile(33, 6, new), maldjupp_paint(old, n, px, W * H, scratch, words), memcpy(before, px, sizeof px);
-    check("33 shapes at once: refused 14", is_refused(maldjupp_patch(old, n, new, m, px, W * H, scratch, words), MALDJUPP_MANY, 0));
-    check("also where pixels are too few: 14 before 8", maldjupp_patch(old, n, new, m, px, 3, scratch, words).number == MALDJUPP_MANY);
+    n = pile(33, 4, old), m = pile(33, 6, new), maldjupp_paint(old, n, W, px, W * H, scratch, words), memcpy(before, px, sizeof px);
+    check("33 shapes at once: refused 14", is_refused(maldjupp_patch(old, n, new, m, W, px, W * H, scratch, words), MALDJUPP_MANY, 0));
+    check("also where pixels are too few: 14 before 8", maldjupp_patch(old, n, new, m, W, px, 3, scratch, words).number == MALDJUPP_MANY);
     check("refused, nothing is altered", memcmp(px, before, sizeof px) == 0);
     n = pile(32, 4, old), m = pile(32, 6, new);
     /* The first of the 32 alters what the others leave as it is. */
-    check("32 at once: the box around all", is_altered(maldjupp_patch(old, n, new, m, px, W * H, scratch, words), 2, 2, 8, 5, 18, 12));
+    check("32 at once: the box around all", is_altered(maldjupp_patch(old, n, new, m, W, px, W * H, scratch, words), 2, 2, 8, 5, 18, 12));
 }
 
 /* Patches of the ticket that are refused, and the ticket call by call. */
@@ -440,23 +441,181 @@ static void refusals(float *scratch, size_t words) {
     static uint8_t old[MOST], new[MOST];
     static uint32_t px[W * H], fresh[W * H], before[W * H];
     size_t n = ticket(brass, 12, old), m = ticket(brass, 12, new);
-    maldjupp_paint(old, n, px, W * H, scratch, words), memcpy(before, px, sizeof px), new[4] ^= 1;
-    check("another ground: refused 10", is_refused(maldjupp_patch(old, n, new, m, px, W * H, scratch, words), MALDJUPP_DIFFERENCE, 0));
+    maldjupp_paint(old, n, W, px, W * H, scratch, words), memcpy(before, px, sizeof px), new[4] ^= 1;
+    check("another ground: refused 10", is_refused(maldjupp_patch(old, n, new, m, W, px, W * H, scratch, words), MALDJUPP_DIFFERENCE, 0));
     m = ticket(brass, 8193, new);
-    check("a bar of 8,193: refused 6 at item 3", is_refused(maldjupp_patch(old, n, new, m, px, W * H, scratch, words), MALDJUPP_FLOAT, 3));
+    check("a bar of 8,193: refused 6 at item 3", is_refused(maldjupp_patch(old, n, new, m, W, px, W * H, scratch, words), MALDJUPP_FLOAT, 3));
     m = ticket(brass, 8, new);
-    check("11 bytes: refused 1", is_refused(maldjupp_patch(old, n, new, 11, px, W * H, scratch, words), MALDJUPP_SHEET_LENGTH, 0));
-    check("a pixel too few: refused 8", is_refused(maldjupp_patch(old, n, new, m, px, W * H - 1, scratch, words), MALDJUPP_PIXELS, 0));
+    check("11 bytes: refused 1", is_refused(maldjupp_patch(old, n, new, 11, W, px, W * H, scratch, words), MALDJUPP_SHEET_LENGTH, 0));
+    check("a pixel too few: refused 8", is_refused(maldjupp_patch(old, n, new, m, W, px, W * H - 1, scratch, words), MALDJUPP_PIXELS, 0));
     check("a word of scratch too few: refused 9",
-          is_refused(maldjupp_patch(old, n, new, m, px, W * H, scratch, words - 1), MALDJUPP_SCRATCH, 0));
+          is_refused(maldjupp_patch(old, n, new, m, W, px, W * H, scratch, words - 1), MALDJUPP_SCRATCH, 0));
     check("refused, nothing is altered", memcmp(px, before, sizeof px) == 0);
     check("the words measured are enough",
-          is_altered(maldjupp_patch(old, n, new, m, px, W * H, scratch, words), 3, 11, 15, 13, 24 + 16, 24));
+          is_altered(maldjupp_patch(old, n, new, m, W, px, W * H, scratch, words), 3, 11, 15, 13, 24 + 16, 24));
 
-    maldjupp_paint(new, m, fresh, W * H, scratch, words);
+    maldjupp_paint(new, m, W, fresh, W * H, scratch, words);
     check("the ticket is drawn call by call", ticket_calls(brass, 8, scratch, words));
     check("its pixels are those of the sheet", memcmp(px2, fresh, sizeof fresh) == 0);
     check("a word of scratch too few: refused 9", !ticket_calls(brass, 8, scratch, words - 1) && memcmp(px2, fresh, sizeof fresh) != 0);
+}
+
+/* A frame whose rows are 7 words longer than the canvas, and one as wide as can be. */
+enum { PITCH = W + 7, FRAME = PITCH * H, WIDEST = 4096 };
+static uint32_t frame[FRAME], widest[WIDEST * H];
+
+/* What a word of a frame holds before anything is painted there: each another. */
+static uint32_t mark(size_t i) { return (uint32_t)i * 2654435761u ^ 0xA5000000; }
+
+static void lay(uint32_t *words, size_t count) {
+    for (size_t i = 0; i < count; i++) words[i] = mark(i);
+}
+
+/* Whether the words of a frame past a width are as they were laid. */
+static int kept(const uint32_t *words, size_t pitch, size_t width) {
+    size_t same = 0;
+    for (size_t i = 0; i < pitch * H; i++) same += i % pitch >= width && words[i] == mark(i);
+    return same == (pitch - width) * H;
+}
+
+/* Whether the canvas within a frame has these pixels. */
+static int shows(const uint32_t *words, size_t pitch, const uint32_t *px) {
+    uint64_t count = 0;
+    for (size_t y = 0; y < H; y++) count += differing(words + y * pitch, px + y * W, W);
+    return count == 0;
+}
+
+/* Whether the first words of each row, up to a width, are a value. */
+static int is_all(const uint32_t *words, size_t pitch, size_t width, uint32_t value) {
+    size_t same = 0;
+    for (size_t i = 0; i < pitch * H; i++) same += i % pitch < width && words[i] == value;
+    return same == width * H;
+}
+
+/* The ticket painted and patched within a frame. */
+static void frames(float *scratch, size_t words) {
+    static uint8_t old[MOST], new[MOST];
+    static uint32_t px[W * H];
+    size_t n = ticket(copper, 9, old), m = ticket(brass, 12, new);
+    lay(frame, FRAME), maldjupp_paint(old, n, W, px, W * H, scratch, words);
+    check("painted within a frame: the same answer",
+          is_altered(maldjupp_paint(old, n, PITCH, frame, FRAME, scratch, words), 0, 0, W, H, 308 + 25 + 18 + 10, W * H));
+    check("the same pixels, the words beside them kept", shows(frame, PITCH, px) && kept(frame, PITCH, W));
+    check("patched within it: the same box and counts",
+          is_altered(maldjupp_patch(old, n, new, m, PITCH, frame, FRAME, scratch, words), 3, 3, 15, 13, 120 + 25 + 24, 120));
+    maldjupp_paint(new, m, W, px, W * H, scratch, words);
+    check("the same pixels, the words beside them kept", shows(frame, PITCH, px) && kept(frame, PITCH, W));
+    lay(widest, WIDEST * H);
+    check("painted and patched in rows of 4,096",
+          maldjupp_paint(old, n, WIDEST, widest, WIDEST * H, scratch, words).number == MALDJUPP_ACCEPTED &&
+              maldjupp_patch(old, n, new, m, WIDEST, widest, WIDEST * H, scratch, words).number == MALDJUPP_ACCEPTED &&
+              shows(widest, WIDEST, px) && kept(widest, WIDEST, W));
+}
+
+/* Whether the ticket is refused by a number, painted and patched, with a pitch and so many pixels. */
+static int both_refused(size_t pitch, size_t pixels, float *scratch, size_t words, uint32_t number) {
+    static uint8_t old[MOST], new[MOST];
+    size_t n = ticket(brass, 12, old), m = ticket(copper, 9, new);
+    return is_refused(maldjupp_paint(new, m, pitch, frame, pixels, scratch, words), number, 0) &&
+           is_refused(maldjupp_patch(old, n, new, m, pitch, frame, pixels, scratch, words), number, 0);
+}
+
+/* Pitches that a sheet is refused by, and the place of 15 among the others. */
+static void pitches(float *scratch, size_t words) {
+    static uint8_t old[MOST], new[MOST];
+    static uint32_t before[FRAME];
+    memcpy(before, frame, sizeof frame);
+    check("a pitch below the width: refused 15",
+          both_refused(W - 1, (W - 1) * H, scratch, words, MALDJUPP_PITCH) && both_refused(0, 0, scratch, words, MALDJUPP_PITCH));
+    check("a pitch of 4,097 or more: refused 15",
+          both_refused(4097, FRAME, scratch, words, MALDJUPP_PITCH) && both_refused(SIZE_MAX, FRAME, scratch, words, MALDJUPP_PITCH));
+    check("15 before 8 and 9", both_refused(W - 1, 3, scratch, words - 1, MALDJUPP_PITCH));
+    check("the last row cut short: refused 8", both_refused(PITCH, PITCH * (H - 1) + W, scratch, words, MALDJUPP_PIXELS));
+    check("another pitch with the same words: refused 8",
+          both_refused(PITCH + 1, FRAME, scratch, words, MALDJUPP_PIXELS) && both_refused(W, FRAME, scratch, words, MALDJUPP_PIXELS));
+    size_t n = pile(33, 4, old), m = pile(33, 6, new);
+    check("what the sheets are refused for comes before 15",
+          maldjupp_paint(old, 11, 0, frame, FRAME, scratch, words).number == MALDJUPP_SHEET_LENGTH &&
+              maldjupp_patch(old, n, new, m, 0, frame, FRAME, scratch, words).number == MALDJUPP_MANY);
+    check("refused, nothing is altered", memcmp(frame, before, sizeof frame) == 0);
+}
+
+/* The steps of several shapes. */
+static uint64_t summed;
+
+static int added(struct maldjupp_counted c) {
+    summed += c.steps;
+    return drew(c) && counted > 0;
+}
+
+/* Shapes that reach over every edge, on a new canvas of a pitch. */
+static int over_the_edges(uint32_t *px, size_t pitch) {
+    static float scratch[99];
+    const struct maldjupp_rect band = {-4, 5.5f, 99, 4};
+    const struct maldjupp_color ink = maldjupp_rgba(36, 66, 104, 128);
+    const float way[] = {2, -3, 40, 5, 8, 24}, corner[] = {20, 11, 26, 11, 20, 17};
+    size_t n = pitch * H;
+    summed = 0;
+    return took(maldjupp_new(W, H, pitch, px, n)) && canvas.pitch == pitch &&
+           added(maldjupp_fill_circle(canvas, px, n, 21, 8, 7, maldjupp_vgrad(0, H, hex(copper), hex(brass)))) &&
+           added(maldjupp_shadow_rrect(canvas, px, n, band, 1, 3, ink, false)) &&
+           added(maldjupp_stroke_rrect(canvas, px, n, band, 2, 2, ink)) &&
+           added(maldjupp_polyline(canvas, px, n, way, 6, 3, ink)) &&
+           added(maldjupp_fill_poly(canvas, px, n, corner, 6, maldjupp_solid(ink), scratch, 99));
+}
+
+/* A canvas within a frame. */
+static void framed(void) {
+    lay(frame, FRAME);
+    check("shapes over every edge", over_the_edges(px2, W));
+    uint64_t own = summed;
+    check("the same within a frame", over_the_edges(frame, PITCH) && summed == own && shows(frame, PITCH, px2));
+    check("the words beside it are kept", kept(frame, PITCH, W));
+    check("a pixel is read by the pitch",
+          maldjupp_get(canvas, frame, FRAME, 20, 9).value == px2[9 * W + 20] && maldjupp_get(canvas, frame, FRAME, 99, 99).value == px2[H * W - 1]);
+    check("the last row cut short: refused 8",
+          refused(maldjupp_clear(canvas, frame, PITCH * (H - 1) + W, hex(copper)), MALDJUPP_PIXELS) && shows(frame, PITCH, px2));
+    check("cleared: the words beside are kept",
+          took(maldjupp_clear(canvas, frame, FRAME, hex(copper))) && is_all(frame, PITCH, W, copper) && kept(frame, PITCH, W));
+    check("the same size: nothing is altered", took(maldjupp_resize(canvas, W, H, frame, FRAME)) && is_all(frame, PITCH, W, copper));
+    check("wider than the pitch: refused 15", refused(maldjupp_resize(canvas, PITCH + 1, H, frame, FRAME), MALDJUPP_PITCH));
+    check("narrower: the pitch stays, zeros in its columns alone",
+          took(maldjupp_resize(canvas, W - 4, H, frame, FRAME)) && canvas.w == W - 4 && canvas.pitch == PITCH && is_all(frame, PITCH, W - 4, 0) &&
+              frame[W - 4] == copper && frame[FRAME - PITCH + W - 1] == copper && kept(frame, PITCH, W));
+    check("as wide as the pitch: zeros in all of it",
+          took(maldjupp_resize(canvas, PITCH, H, frame, FRAME)) && canvas.pitch == PITCH && is_all(frame, PITCH, PITCH, 0));
+}
+
+/* Whether every call refuses the canvas by a number. */
+static int every_call_refuses(uint32_t number) {
+    const struct maldjupp_rect rect = {1, 1, 4, 4};
+    const struct maldjupp_box none = {0, 0, 0, 0};
+    return is_box(maldjupp_bounds(canvas), number, 0, 0, 0, 0) && is_box(maldjupp_clip(canvas), number, 0, 0, 0, 0) &&
+           refused(maldjupp_push_clip(canvas, rect), number) && refused(maldjupp_push_clip_i(canvas, none), number) &&
+           refused(maldjupp_pop_clip(canvas), number) && refused(maldjupp_resize(canvas, 5, H, frame, FRAME), number) &&
+           refused(maldjupp_clear(canvas, frame, FRAME, hex(copper)), number) && maldjupp_get(canvas, frame, FRAME, 0, 0).number == number &&
+           refused_shape(maldjupp_fill_rect(canvas, frame, FRAME, rect, maldjupp_solid(hex(copper))), number);
+}
+
+/* Pitches that a canvas is refused by. */
+static void bad_pitches(void) {
+    const struct maldjupp_canvas zeros = {.w = 0};
+    lay(frame, FRAME), canvas = zeros;
+    check("new, a pitch below the width: refused 15, zeros", refused(maldjupp_new(W, H, W - 1, frame, FRAME), MALDJUPP_PITCH));
+    check("new, a pitch of 4,097: refused 15, zeros", refused(maldjupp_new(W, H, 4097, frame, FRAME), MALDJUPP_PITCH));
+    check("new, a width raised to 1: a pitch of 0 is below it", refused(maldjupp_new(-3, H, 0, frame, 0), MALDJUPP_PITCH));
+    check("new, a side over 2,048: 2 before 15", refused(maldjupp_new(W, 2049, 0, frame, FRAME), MALDJUPP_HEADER));
+    check("new, the last row cut short: refused 8, zeros", refused(maldjupp_new(W, H, PITCH, frame, FRAME - 7), MALDJUPP_PIXELS));
+    check("refused, nothing is altered", kept(frame, PITCH, 0));
+    struct maldjupp_canvas sound = maldjupp_new(W, H, PITCH, frame, FRAME).canvas;
+    canvas = sound, canvas.pitch = W - 1;
+    check("a state's pitch below its width: every call refuses 15", every_call_refuses(MALDJUPP_PITCH));
+    canvas.pitch = 4097;
+    check("a state's pitch of 4,097: every call refuses 15", every_call_refuses(MALDJUPP_PITCH));
+    canvas.depth = 17;
+    check("12 before 15", every_call_refuses(MALDJUPP_STATE));
+    canvas = sound;
+    check("refused, nothing is altered", is_all(frame, PITCH, W, 0) && kept(frame, PITCH, W));
 }
 
 int main(void) {
@@ -467,11 +626,15 @@ int main(void) {
     check("measured: 50 words, no clip, 387 pixels", is_room(room, MALDJUPP_ACCEPTED, 0, 50, 0, 308 + 25 + 18 + 36));
     patches(scratch, room.words);
     refusals(scratch, room.words);
+    frames(scratch, room.words);
+    pitches(scratch, room.words);
     free(scratch);
     rooms();
     calls();
     shapes();
     counts();
+    framed();
+    bad_pitches();
     traces();
     orders();
 

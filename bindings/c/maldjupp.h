@@ -3,7 +3,11 @@
  *
  * Sheet, buffer, pixels, points and scratch are lent for the call. Only what is lent is touched, whatever the bytes and numbers are, and nothing
  * is kept. Lent pieces must not overlap. A pointer whose length is 0 must not be null: give the address of anything.
- * Pixels stand row by row, each 0x00RRGGBB. */
+ *
+ * Pixels stand row by row, each 0x00RRGGBB, within a frame whose rows are `pitch` words long, from the canvas's width to 4,096: the pixel in column
+ * x and row y is px[y * pitch + x]. `pixels`, the words lent, must be pitch times height, so the last row is whole too. The words of a row past
+ * the width are never altered by any call. Where px is the canvas alone, the pitch is its width. In a larger frame px points at the canvas's first
+ * pixel; where that is not in the frame's first column, the words lent end as far into the row after the canvas's last, which must be there. */
 #ifndef MALDJUPP_H
 #define MALDJUPP_H
 
@@ -25,12 +29,13 @@ enum maldjupp_number {
     MALDJUPP_ZERO_BYTE = 5,    /* a zero byte of an item filled, a paint or brush kind over 3 or skip_inside over 1 */
     MALDJUPP_FLOAT = 6,        /* a float is not finite or past 8,192 either way */
     MALDJUPP_CLIPS = 7,        /* a clip is pushed while 16 are saved */
-    MALDJUPP_PIXELS = 8,       /* the pixels lent are not width times height */
+    MALDJUPP_PIXELS = 8,       /* the pixels lent are not pitch times height */
     MALDJUPP_SCRATCH = 9,      /* the scratch lent is less than is needed */
     MALDJUPP_DIFFERENCE = 10,  /* the sheets differ in size, ground or item count, or in a push or pop of a clip */
     MALDJUPP_STATE = 12,       /* a state that a canvas cannot be in */
     MALDJUPP_POINTS = 13,      /* a polygon or polyline of over 64 points, or in a canvas call an odd count of coordinates */
     MALDJUPP_MANY = 14,        /* the sheets differ in more than 32 shapes */
+    MALDJUPP_PITCH = 15,       /* a pitch outside the width to 4,096, also one in a state, or one below the width that maldjupp_resize wants */
     MALDJUPP_BUFFER = 19,      /* the sheet does not fit the buffer */
     MALDJUPP_ORDER = 23        /* there is no clip order of this number: it is 1,093 or more */
 };
@@ -85,20 +90,25 @@ struct maldjupp_room {
 /* Tells what painting a sheet takes, without pixels or scratch. Patching to this sheet needs the same words. Polygons alone need any. */
 struct maldjupp_room maldjupp_measure(const uint8_t *sheet, size_t bytes);
 
-/* Paints a sheet: every pixel the ground, then its items in their order. `pixels` must be width times height; maldjupp_measure tells how
- * many words of scratch are needed. Accepted, the box is the whole canvas. Refused, no pixel and no scratch word is altered. */
-struct maldjupp_reply maldjupp_paint(const uint8_t *sheet, size_t bytes, uint32_t *px, size_t pixels, float *scratch, size_t words);
+/* Paints a sheet: every pixel the ground, then its items in their order. `pixels` must be pitch times height; maldjupp_measure tells how
+ * many words of scratch are needed. Accepted, the box is the whole canvas. Refused, no pixel and no scratch word is altered. What the sheet is
+ * refused for comes first; then 15, 8 and 9, in this order. */
+struct maldjupp_reply maldjupp_paint(const uint8_t *sheet, size_t bytes, size_t pitch, uint32_t *px, size_t pixels, float *scratch, size_t words);
 
 /* Patches pixels that show the old sheet to the new one. The two may differ in up to 32 shapes. Scratch is what the new sheet
  * needs; maldjupp_measure tells how many words. Accepted, the box is the smallest around these shapes, old and new, on the canvas, and no
  * pixel outside it is altered; the pixels are those that painting the new sheet gives, and the new sheet is the old one of the next patch.
- * Refused, nothing is altered, and the old sheet stays the old one.
+ * Refused, nothing is altered, and the old sheet stays the old one. What a sheet is refused for comes first, the old one before the new one; then
+ * 10, 14, 15, 8 and 9, in this order.
+ *
+ * Pitch and `pixels` are those of the painting. Another pitch with the same words lent is refused: by 15 where it is outside the width to 4,096,
+ * else by 8, since it times the height is another number.
  *
  * A ceiling to plan with, proved of every patch: `steps` is at most the area of the box times the number of shapes in the new sheet whose reach
  * shares a pixel with the box, a polyline standing once for each of its lines whose reach does; `grounded` is at most the area, and an empty
  * box has 0 for both. */
 struct maldjupp_reply maldjupp_patch(const uint8_t *old_sheet, size_t old_bytes, const uint8_t *new_sheet, size_t new_bytes,
-                                     uint32_t *px, size_t pixels, float *scratch, size_t words);
+                                     size_t pitch, uint32_t *px, size_t pixels, float *scratch, size_t words);
 
 /* What a call that writes a sheet returns. */
 struct maldjupp_written {
@@ -120,14 +130,15 @@ struct maldjupp_written maldjupp_clip_order(size_t number, uint8_t *buf, size_t 
  * back and no pixel and no scratch word is altered, so that a caller may always go on with the returned state. A call that draws a shape also
  * returns how many of its steps altered a pixel:
  *
- *     struct maldjupp_canvas c = maldjupp_new(W, H, px, W * H).canvas;
+ *     struct maldjupp_canvas c = maldjupp_new(W, H, W, px, W * H).canvas;
  *     struct maldjupp_counted d = maldjupp_fill_circle(c, px, W * H, 30, 40, 16, maldjupp_solid(maldjupp_rgb(184, 115, 51)));
  *     if (d.number != MALDJUPP_ACCEPTED) ..
  *     c = d.canvas;
  *     printf("%llu steps\n", (unsigned long long)d.steps);
  *
- * `pixels` must be width times height. Every float is finite and -8,192 to 8,192. Points are coordinates x y x y, of at most 64 points,
- * and `count` is the count of coordinates. The tests stand in the order 12, 2, 8, 13, 5, 6, 7, 9. */
+ * `pixels` must be the state's pitch times its height. Every float is finite and -8,192 to 8,192. Points are coordinates x y x y, of at most 64
+ * points, and `count` is the count of coordinates. The tests stand in the order 12, 2, 15, 8, 13, 5, 6, 7, 9. Every call that takes a state tests
+ * 12 and 15, also one without pixels. */
 
 struct maldjupp_pt {
     float x, y;
@@ -155,10 +166,11 @@ struct maldjupp_brush {
     float v0, v1, v2, v3;
 };
 
-/* Sides of 1 to 2,048, the clip, and the saved clips, of which `depth` are in use and the others four zeros. Every clip is empty or inside
- * the canvas. Any other state is refused by 12. */
+/* Sides of 1 to 2,048, the pitch, the clip, and the saved clips, of which `depth` are in use and the others four zeros. Every clip is empty or
+ * inside the canvas. Any other state is refused by 12, and then one whose pitch is outside w to 4,096 by 15. */
 struct maldjupp_canvas {
     int32_t w, h;
+    size_t pitch;
     struct maldjupp_box clip, saved[16];
     size_t depth;
 };
@@ -214,11 +226,13 @@ static inline struct maldjupp_brush maldjupp_radial(struct maldjupp_pt c, float 
     return brush;
 }
 
-/* A canvas with all of it as clip and nothing saved; its pixels are then 0. A side below 1 is raised to 1, and `pixels` must be the raised
- * sides' product. Refused, the state is zeros. */
-struct maldjupp_done maldjupp_new(int32_t w, int32_t h, uint32_t *px, size_t pixels);
+/* A canvas with all of it as clip and nothing saved; its pixels are then 0, the words of a row past its width as they came. A side below 1 is
+ * raised to 1; the pitch is held to the raised width, and `pixels` must be the pitch times the raised height. Refused, by 2, 15 or 8, the state is
+ * zeros. */
+struct maldjupp_done maldjupp_new(int32_t w, int32_t h, size_t pitch, uint32_t *px, size_t pixels);
 
-/* Another size, as if new; the same size alters nothing. `px` is for the new size. */
+/* Another size, as if new, with the state's pitch; the same size alters nothing. `px` is for the new size, sides below 1 raised: the pitch times
+ * the new height. Refused by 15 where the pitch is outside the state's own width to 4,096, or below the width that is wanted. */
 struct maldjupp_done maldjupp_resize(struct maldjupp_canvas canvas, int32_t w, int32_t h, uint32_t *px, size_t pixels);
 
 /* The whole canvas, and the clip. */
@@ -232,10 +246,10 @@ struct maldjupp_done maldjupp_push_clip_i(struct maldjupp_canvas canvas, struct 
 /* Takes back the clip saved last; does nothing where none is saved. */
 struct maldjupp_done maldjupp_pop_clip(struct maldjupp_canvas canvas);
 
-/* Sets every pixel to a colour, whatever the clip. */
+/* Sets every pixel of the canvas to a colour, whatever the clip; the words of a row past the width stay as they came. */
 struct maldjupp_done maldjupp_clear(struct maldjupp_canvas canvas, uint32_t *px, size_t pixels, struct maldjupp_color color);
 
-/* The pixel in column x and row y, each brought to the nearest inside. */
+/* The pixel in column x and row y, each brought to the nearest inside: px[y * pitch + x]. */
 struct maldjupp_pixel maldjupp_get(struct maldjupp_canvas canvas, const uint32_t *px, size_t pixels, int32_t x, int32_t y);
 
 /* A rectangle with round corners, a rectangle, and a circle, filled. */
