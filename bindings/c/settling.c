@@ -1,7 +1,8 @@
 /* Paints the first sheet and patches the pixels through the others: settling OUT SHEET SHEET ..
  *
- * After every patch the pixels must be those of a fresh painting. Prints of each call how many steps of a shape altered a pixel, and how many
- * pixels the ground altered. Writes start.ppm and ticket.ppm, the last, into the folder OUT.
+ * The same is done within a terminal's frame, whose rows are longer than the canvas. After every patch the pixels must be those of a fresh painting,
+ * within the frame too, and every word around them as it was. Prints of each call how many steps of a shape altered a pixel, and how many
+ * pixels the ground altered. Writes start.ppm, ticket.ppm (the last) and frame.ppm (the last, within the frame) into the folder OUT.
  *
  *   cc -std=c11 -Wall -Wextra -Werror -I bindings/c bindings/c/settling.c -L target/staticlib -lmaldjupp -o settling */
 #include "maldjupp.h"
@@ -19,8 +20,14 @@ static uint32_t px[PIXELS], fresh[PIXELS];
 static float *scratch;
 static size_t words;
 
-/* The steps of all patches. */
-static unsigned long long patched;
+/* The frame: so many columns left and right of the ticket, and rows above and below it. The pitch is the length of its rows, and `lent` where the
+ * ticket's first pixel stands. */
+enum { ASIDE = 60, ABOVE = 40 };
+static uint32_t *frame, *lent;
+static size_t pitch, rows;
+
+/* The steps of the painting, and of all patches. */
+static unsigned long long painted, patched;
 
 /* The bytes of a file; 0 where there is none, or where it is longer than a sheet can be. */
 static size_t bytes_of(const char *name, uint8_t sheet[BYTES]) {
@@ -45,37 +52,68 @@ static bool lend(const uint8_t *sheet, size_t n) {
     return scratch != NULL;
 }
 
-/* Writes the pixels of a sheet as a PPM; whether it could. */
-static bool write_ppm(const char *folder, const char *name, const uint8_t *sheet) {
+/* What the frame shows around the ticket: slanting stripes. */
+static uint32_t around(size_t i) { return (i % pitch + i / pitch) / 10 % 2 ? 0x2A3440 : 0x364452; }
+
+/* Makes the frame around a sheet; whether there is memory. */
+static bool lay(const uint8_t *sheet) {
+    pitch = width(sheet) + 2 * ASIDE, rows = height(sheet) + 2 * ABOVE;
+    frame = malloc(pitch * rows * sizeof *frame);
+    if (!frame) return false;
+    lent = frame + ABOVE * pitch + ASIDE;
+    for (size_t i = 0; i < pitch * rows; i++) frame[i] = around(i);
+    return true;
+}
+
+/* Whether the frame shows the ticket's pixels in their place, and around them what it showed before. */
+static bool shown(const uint8_t *sheet) {
+    for (size_t i = 0; i < pitch * rows; i++) {
+        size_t x = i % pitch - ASIDE, y = i / pitch - ABOVE;
+        bool inside = x < width(sheet) && y < height(sheet);
+        if (frame[i] != (inside ? px[y * width(sheet) + x] : around(i))) return false;
+    }
+    return true;
+}
+
+/* Writes pixels, rows of so many, as a PPM; whether it could. */
+static bool write_ppm(const char *folder, const char *name, const uint32_t *from, size_t w, size_t h) {
     char path[4096];
     int fits = snprintf(path, sizeof path, "%s/%s", folder, name);
     FILE *file = 0 < fits && (size_t)fits < sizeof path ? fopen(path, "wb") : NULL;
-    if (!file) return false;
-    fprintf(file, "P6\n%zu %zu\n255\n", width(sheet), height(sheet));
-    for (size_t i = 0; i < width(sheet) * height(sheet); i++) {
-        uint8_t rgb[3] = {(uint8_t)(px[i] >> 16), (uint8_t)(px[i] >> 8), (uint8_t)px[i]};
+    if (!file) return fprintf(stderr, "%s cannot be written\n", name), false;
+    fprintf(file, "P6\n%zu %zu\n255\n", w, h);
+    for (size_t i = 0; i < w * h; i++) {
+        uint8_t rgb[3] = {(uint8_t)(from[i] >> 16), (uint8_t)(from[i] >> 8), (uint8_t)from[i]};
         fwrite(rgb, 1, 3, file);
     }
     bool written = !ferror(file);
-    return fclose(file) == 0 && written;
+    if (fclose(file) == 0 && written) return true;
+    return fprintf(stderr, "%s cannot be written\n", name), false;
 }
+
+static int failed(const char *name, const char *why) { return fprintf(stderr, "%s: %s\n", name, why), 1; }
 
 static int refused(const char *name, struct maldjupp_reply r) {
     fprintf(stderr, "%s: refused %u at %u\n", name, r.number, r.item);
     return 1;
 }
 
+/* Whether two answers are the same, but for what the ground altered, which hangs on what stood there. */
+static bool alike(struct maldjupp_reply a, struct maldjupp_reply b) {
+    return a.number == b.number && a.item == b.item && a.x0 == b.x0 && a.y0 == b.y0 && a.x1 == b.x1 && a.y1 == b.y1 && a.steps == b.steps;
+}
+
 /* Patches from the old sheet to the file's, and holds the pixels to a fresh painting; 0 where all is as it should be. */
 static int patch(const char *name, size_t *n) {
-    size_t m = bytes_of(name, new), pixels = width(old) * height(old);
-    if (!lend(new, m)) return fprintf(stderr, "there is no memory\n"), 1;
-    struct maldjupp_reply r = maldjupp_patch(old, *n, new, m, px, pixels, scratch, words);
+    size_t m = bytes_of(name, new), w = width(old), pixels = w * height(old);
+    if (!lend(new, m)) return failed(name, "there is no memory");
+    struct maldjupp_reply r = maldjupp_patch(old, *n, new, m, w, px, pixels, scratch, words);
     if (r.number != MALDJUPP_ACCEPTED) return refused(name, r);
-    maldjupp_paint(new, m, fresh, pixels, scratch, words);
-    if (memcmp(px, fresh, 4 * pixels) != 0) {
-        fprintf(stderr, "%s: the pixels are not those of a fresh painting\n", name);
-        return 1;
-    }
+    if (!alike(r, maldjupp_patch(old, *n, new, m, pitch, lent, pitch * height(old), scratch, words)))
+        return failed(name, "the answer within the frame is another");
+    maldjupp_paint(new, m, w, fresh, pixels, scratch, words);
+    if (memcmp(px, fresh, 4 * pixels) != 0) return failed(name, "the pixels are not those of a fresh painting");
+    if (!shown(new)) return failed(name, "the frame does not show the ticket in its place, or was altered around it");
     const char *file = strrchr(name, '/');
     printf("patched %-16s box %3d x %3d at %3d,%3d: %6llu steps, %6llu grounded\n", file ? file + 1 : name, r.x1 - r.x0, r.y1 - r.y0, r.x0,
            r.y0, (unsigned long long)r.steps, (unsigned long long)r.grounded);
@@ -83,21 +121,32 @@ static int patch(const char *name, size_t *n) {
     return 0;
 }
 
+/* Paints the old sheet, on pixels of its own and within the frame, and tells what it takes; 0 where both are accepted. */
+static int paint(const char *name, size_t n) {
+    size_t w = width(old), pixels = w * height(old);
+    if (!lend(old, n)) return failed(name, "there is no memory");
+    struct maldjupp_reply r = maldjupp_paint(old, n, w, px, pixels < PIXELS ? pixels : PIXELS, scratch, words);
+    if (r.number != MALDJUPP_ACCEPTED) return refused(name, r);
+    if (!lay(old)) return failed(name, "there is no memory");
+    struct maldjupp_reply f = maldjupp_paint(old, n, pitch, lent, pitch * height(old), scratch, words);
+    if (!alike(r, f) || !shown(old)) return failed(name, "the frame does not show the ticket in its place, or was altered around it");
+    struct maldjupp_room room = maldjupp_measure(old, n);
+    printf("painted %zu x %zu: %zu words of scratch, %zu clips saved at once, %llu pixels in its shapes, %llu steps, %llu grounded\n", w,
+           height(old), room.words, room.saved, (unsigned long long)room.pixels, (unsigned long long)r.steps, (unsigned long long)r.grounded);
+    painted = r.steps;
+    return 0;
+}
+
 int main(int count, char **given) {
     if (count < 3) return fprintf(stderr, "usage: settling OUT SHEET SHEET ..\n"), 2;
-    size_t n = bytes_of(given[2], old), pixels = width(old) * height(old);
-    if (!lend(old, n)) return fprintf(stderr, "there is no memory\n"), 1;
-    struct maldjupp_reply r = maldjupp_paint(old, n, px, pixels < PIXELS ? pixels : PIXELS, scratch, words);
-    if (r.number != MALDJUPP_ACCEPTED) return refused(given[2], r);
-    struct maldjupp_room room = maldjupp_measure(old, n);
-    printf("painted %zu x %zu: %zu words of scratch, %zu clips saved at once, %llu pixels in its shapes, %llu steps, %llu grounded\n",
-           width(old), height(old), room.words, room.saved, (unsigned long long)room.pixels, (unsigned long long)r.steps,
-           (unsigned long long)r.grounded);
-    if (!write_ppm(given[1], "start.ppm", old)) return fprintf(stderr, "start.ppm cannot be written\n"), 1;
+    size_t n = bytes_of(given[2], old);
+    if (paint(given[2], n) != 0 || !write_ppm(given[1], "start.ppm", px, width(old), height(old))) return 1;
     for (int i = 3; i < count; i++)
         if (patch(given[i], &n) != 0) return 1;
-    if (!write_ppm(given[1], "ticket.ppm", old)) return fprintf(stderr, "ticket.ppm cannot be written\n"), 1;
+    if (!write_ppm(given[1], "ticket.ppm", px, width(old), height(old)) || !write_ppm(given[1], "frame.ppm", frame, pitch, rows)) return 1;
     printf("%d patches: after each, the pixels are those of a fresh painting\n", count - 3);
-    printf("steps that altered a pixel: %llu of the painting, %llu of all patches\n", (unsigned long long)r.steps, patched);
+    printf("the same within a frame of %zu x %zu: the same pixels and answers, and every word around as it was\n", pitch, rows);
+    printf("steps that altered a pixel: %llu of the painting, %llu of all patches\n", painted, patched);
+    free(frame), free(scratch);
     return 0;
 }
