@@ -1,6 +1,9 @@
 //! The canvas: pixels that are drawn on call by call.
 use crate::raw::{self, Counted, Done, State};
-use crate::{sheet, to_ppm, Color, IRect, Paint, Pt, Rect, Refusal, SheetBuilder};
+use crate::{frame, sheet, Color, IRect, Paint, Pt, Rect, Refusal, SheetBuilder};
+
+/// The most words of a row.
+const LONGEST: usize = 4096;
 
 /// A canvas with its pixels, and kash-ui's calls. The sides are 1 to 2,048; up to 16 clips are saved at once.
 ///
@@ -32,12 +35,23 @@ pub struct Canvas {
     state: State,
     px: Vec<u32>,
     scratch: Vec<f32>,
+    /// Whether the pitch was given, and so stays; else it is the width.
+    pitched: bool,
 }
 
-/// Pixels of a canvas whose sides are raised to 1; 0 where the library refuses a side.
-fn pixels(w: i32, h: i32) -> usize {
+/// Sides raised to 1; zeros where the library refuses one.
+fn raised(w: i32, h: i32) -> (usize, usize) {
     let [w, h] = [w, h].map(|side| side.max(1) as u32);
-    sheet::area(w, h)
+    sheet::sides(w, h)
+}
+
+/// The words of so many rows; 0 where the library refuses the pitch as too long.
+fn words_of(pitch: usize, rows: usize) -> usize {
+    if pitch <= LONGEST {
+        pitch * rows
+    } else {
+        0
+    }
 }
 
 fn state(done: Done) -> Result<State, Refusal> {
@@ -55,20 +69,54 @@ fn words(points: &[Pt], paint: Paint) -> usize {
 }
 
 impl Canvas {
-    /// A canvas whose pixels are 0. A side below 1 is raised to 1.
+    /// A canvas whose pixels are 0, its rows as long as it is wide. A side below 1 is raised to 1.
     pub fn new(w: i32, h: i32) -> Result<Canvas, Refusal> {
-        let mut px = vec![0; pixels(w, h)];
-        let state = state(State::blank(w, h, &mut px))?;
-        Ok(Canvas { state, px, scratch: vec![] })
+        Canvas::blank(w, h, raised(w, h).0, false)
     }
 
-    /// Makes the canvas another size: its pixels are then 0, its clip is all of it and none is saved. The same size alters nothing.
+    /// A canvas within rows of `pitch` words, its width to 4,096: the pixel at column x and row y is `px()[y * pitch + x]`. The words of a row
+    /// past the width are 0 at first, and no call alters them; [`Canvas::margin_mut`] lends them. Another pitch is refused by
+    /// [`Refusal::Pitch`]. A side below 1 is raised to 1.
+    ///
+    /// ```
+    /// use maldjupp::{Canvas, Color, Refusal};
+    /// let mut canvas = Canvas::with_pitch(2, 2, 3)?;
+    /// canvas.margin_mut(1)[0] = 7;
+    /// canvas.clear(Color::WHITE)?;
+    /// assert_eq!(canvas.px(), [0xFF_FFFF, 0xFF_FFFF, 0, 0xFF_FFFF, 0xFF_FFFF, 7]);
+    /// assert_eq!((canvas.row(1), canvas.pitch()), (&[0xFF_FFFF; 2][..], 3));
+    /// assert_eq!((canvas.resize(4, 2), Canvas::with_pitch(2, 2, 1).err()), (Err(Refusal::Pitch), Some(Refusal::Pitch)));
+    /// # Ok::<(), Refusal>(())
+    /// ```
+    pub fn with_pitch(w: i32, h: i32, pitch: usize) -> Result<Canvas, Refusal> {
+        Canvas::blank(w, h, pitch, true)
+    }
+
+    fn blank(w: i32, h: i32, pitch: usize, pitched: bool) -> Result<Canvas, Refusal> {
+        let mut px = vec![0; words_of(pitch, raised(w, h).1)];
+        let state = state(State::blank(w, h, pitch, &mut px))?;
+        Ok(Canvas { state, px, scratch: vec![], pitched })
+    }
+
+    /// Makes the canvas another size: its pixels are then 0, its clip is all of it and none is saved. The same size alters nothing. A side below
+    /// 1 is raised to 1.
+    ///
+    /// A canvas made by [`Canvas::new`] has rows as long as it is wide, before and after. One made by [`Canvas::with_pitch`] keeps its pitch, and
+    /// a larger width is refused by [`Refusal::Pitch`]; the words of its rows past the new width stay as they were, and those of rows that it
+    /// did not have are 0.
     pub fn resize(&mut self, w: i32, h: i32) -> Result<(), Refusal> {
-        let length = pixels(w, h);
+        let (width, height) = raised(w, h);
+        if !self.pitched && (width, height) != (self.width(), self.height()) {
+            let other = Canvas::new(w, h)?;
+            (self.state, self.px) = (other.state, other.px);
+            return Ok(());
+        }
+        let length = self.pitch() * height;
         if length == self.px.len() {
             return self.on(|state, px| state.resize(w, h, px));
         }
-        let mut px = vec![0; length];
+        let mut px = self.px.clone();
+        px.resize(length, 0);
         self.state = state(self.state.resize(w, h, &mut px))?;
         self.px = px;
         Ok(())
@@ -99,7 +147,7 @@ impl Canvas {
         self.on(|state, _| state.pop_clip())
     }
 
-    /// Sets every pixel to a colour, whatever the clip. The colour's alpha is not used.
+    /// Sets every pixel of the canvas to a colour, whatever the clip. The colour's alpha is not used.
     pub fn clear(&mut self, color: Color) -> Result<(), Refusal> {
         self.on(|state, px| state.clear(px, color))
     }
@@ -164,9 +212,37 @@ impl Canvas {
         self.draw(|state, px| state.shadow_rrect(px, rect, r, blur, color, skip_inside))
     }
 
-    /// The pixels, row by row, each 0x00RRGGBB.
+    /// The words as they lie, [`pitch`](Canvas::pitch) times height: the pixels row by row, each 0x00RRGGBB, and after each row the words past the
+    /// width.
     pub fn px(&self) -> &[u32] {
         &self.px
+    }
+
+    /// The words of a row: the width, but for a canvas made by [`Canvas::with_pitch`].
+    pub fn pitch(&self) -> usize {
+        self.state.pitch
+    }
+
+    /// The pixels of a row, as many as the canvas is wide.
+    ///
+    /// # Panics
+    /// Where there is no such row.
+    pub fn row(&self, y: usize) -> &[u32] {
+        frame::row(&self.px, self.pitch(), self.width(), y)
+    }
+
+    /// The pixels, one row after the other.
+    pub fn rows(&self) -> impl ExactSizeIterator<Item = &[u32]> {
+        frame::rows(&self.px, self.pitch(), self.width())
+    }
+
+    /// The words of a row past the width, to be written by the caller; no call alters them.
+    ///
+    /// # Panics
+    /// Where there is no such row.
+    pub fn margin_mut(&mut self, y: usize) -> &mut [u32] {
+        let (pitch, width) = (self.pitch(), self.width());
+        frame::margin(&mut self.px, pitch, width, y)
     }
 
     /// The width.
@@ -179,9 +255,9 @@ impl Canvas {
         self.state.h as usize
     }
 
-    /// The picture as a PPM file.
+    /// The picture as a PPM file: the canvas's columns alone.
     pub fn to_ppm(&self) -> Vec<u8> {
-        to_ppm(self.width(), &self.px)
+        frame::picture(self.width(), self.rows())
     }
 
     fn on(&mut self, call: impl FnOnce(State, &mut [u32]) -> Done) -> Result<(), Refusal> {

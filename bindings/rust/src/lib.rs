@@ -39,6 +39,9 @@
 //! # Ok::<(), Box<dyn std::error::Error>>(())
 //! ```
 //!
+//! Where the picture stands within a frame whose rows are longer than it, [`Ticket::paint_in`] paints and patches it there
+//! ([`FramedTicket`]), and [`Canvas::with_pitch`] draws on such rows; the words beside it are never altered.
+//!
 //! What painting a sheet takes, [`room`] tells before it is painted: scratch, saved clips, and pixels as a figure for the work.
 //!
 //! A program that shows sheets can be tried on [`clip_orders`], every small order of clips and fills.
@@ -48,6 +51,7 @@
 #![warn(missing_docs)]
 
 mod canvas;
+mod frame;
 mod measure;
 mod orders;
 #[allow(unsafe_code)]
@@ -58,9 +62,10 @@ mod ticket;
 mod values;
 
 pub use canvas::Canvas;
+pub use frame::to_ppm;
 pub use measure::{room, Room};
 pub use orders::{clip_order, clip_orders, ClipOrders, LONGEST_CLIP_ORDER};
 pub use refusal::{Error, Refusal, Refused, SheetError};
 pub use sheet::{Shape, SheetBuilder};
-pub use ticket::{to_ppm, Altered, Ticket};
+pub use ticket::{Altered, FramedTicket, Ticket};
 pub use values::{Color, IRect, Paint, Pt, Rect};

@@ -15,7 +15,8 @@ pub struct Room {
 }
 
 /// What painting a sheet takes, without pixels or scratch. The bytes may be any: a sheet that painting would refuse for itself is refused
-/// in the same way, and [`Refusal::Pixels`](crate::Refusal::Pixels) and [`Refusal::Scratch`](crate::Refusal::Scratch) never come.
+/// in the same way, and [`Refusal::Pitch`](crate::Refusal::Pitch), [`Refusal::Pixels`](crate::Refusal::Pixels) and
+/// [`Refusal::Scratch`](crate::Refusal::Scratch) never come.
 ///
 /// ```
 /// use maldjupp::{room, Color, Rect, Refusal, Room, SheetBuilder};
@@ -75,10 +76,10 @@ mod tests {
             let (bytes, mut px) = (b.bytes(), vec![0; 16]);
             let words = room(&bytes).unwrap().words;
             assert!(words > 0);
-            assert_eq!(raw::paint(&bytes, &mut px, &mut vec![f32::NAN; words]).number, 0);
-            assert_eq!(raw::paint(&bytes, &mut px, &mut vec![f32::NAN; words - 1]).number, Refusal::Scratch.number());
-            assert_eq!(raw::patch(&bytes, &bytes, &mut px, &mut vec![f32::NAN; words]).number, 0);
-            assert_eq!(raw::patch(&bytes, &bytes, &mut px, &mut vec![f32::NAN; words - 1]).number, Refusal::Scratch.number());
+            assert_eq!(raw::paint(&bytes, 4, &mut px, &mut vec![f32::NAN; words]).number, 0);
+            assert_eq!(raw::paint(&bytes, 4, &mut px, &mut vec![f32::NAN; words - 1]).number, Refusal::Scratch.number());
+            assert_eq!(raw::patch(&bytes, &bytes, 4, &mut px, &mut vec![f32::NAN; words]).number, 0);
+            assert_eq!(raw::patch(&bytes, &bytes, 4, &mut px, &mut vec![f32::NAN; words - 1]).number, Refusal::Scratch.number());
         }
     }
 
@@ -89,7 +90,7 @@ mod tests {
         let (mut b, mut polygon) = (blank(), blank());
         b.polyline(&points, 1.0, Color::WHITE).unwrap();
         assert_eq!(b.room().unwrap().words, 0);
-        assert_eq!(raw::paint(&b.bytes(), &mut [0; 24 * 16], &mut []).number, 0);
+        assert_eq!(raw::paint(&b.bytes(), 24, &mut [0; 24 * 16], &mut []).number, 0);
         b.fill_poly(&points, Color::WHITE).unwrap();
         polygon.fill_poly(&points, Color::WHITE).unwrap();
         assert_eq!(b.room().unwrap().words, polygon.room().unwrap().words);

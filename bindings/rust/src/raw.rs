@@ -29,12 +29,13 @@ pub struct Written {
     pub len: usize,
 }
 
-/// The state of a canvas: its sides, its clip, and the saved clips, of which `depth` are in use.
+/// The state of a canvas: its sides, the words of a row, its clip, and the saved clips, of which `depth` are in use.
 #[repr(C)]
 #[derive(Clone, Copy, Debug, PartialEq, Eq)]
 pub struct State {
     pub w: i32,
     pub h: i32,
+    pub pitch: usize,
     pub clip: IRect,
     pub saved: [IRect; 16],
     pub depth: usize,
@@ -91,12 +92,21 @@ impl From<Paint> for Brush {
 }
 
 extern "C" {
-    fn maldjupp_paint(sheet: *const u8, bytes: usize, px: *mut u32, pixels: usize, scratch: *mut f32, words: usize) -> Reply;
+    fn maldjupp_paint(
+        sheet: *const u8,
+        bytes: usize,
+        pitch: usize,
+        px: *mut u32,
+        pixels: usize,
+        scratch: *mut f32,
+        words: usize,
+    ) -> Reply;
     fn maldjupp_patch(
         old: *const u8,
         old_bytes: usize,
         new: *const u8,
         new_bytes: usize,
+        pitch: usize,
         px: *mut u32,
         pixels: usize,
         scratch: *mut f32,
@@ -104,7 +114,7 @@ extern "C" {
     ) -> Reply;
     fn maldjupp_measure(sheet: *const u8, bytes: usize) -> Room;
     fn maldjupp_clip_order(number: usize, buf: *mut u8, room: usize) -> Written;
-    fn maldjupp_new(w: i32, h: i32, px: *mut u32, pixels: usize) -> Done;
+    fn maldjupp_new(w: i32, h: i32, pitch: usize, px: *mut u32, pixels: usize) -> Done;
     fn maldjupp_resize(canvas: State, w: i32, h: i32, px: *mut u32, pixels: usize) -> Done;
     fn maldjupp_bounds(canvas: State) -> Boxed;
     fn maldjupp_clip(canvas: State) -> Boxed;
@@ -153,19 +163,20 @@ extern "C" {
 // SAFETY, of every call below: each pointer comes with the length of its slice, and a point is two floats, x and y, without a gap. The
 // library reads and writes only what is lent, for any bytes, numbers and state, and keeps nothing.
 
-/// Paints a sheet on px.
-pub fn paint(sheet: &[u8], px: &mut [u32], scratch: &mut [f32]) -> Reply {
-    unsafe { maldjupp_paint(sheet.as_ptr(), sheet.len(), px.as_mut_ptr(), px.len(), scratch.as_mut_ptr(), scratch.len()) }
+/// Paints a sheet on px, rows of so many words.
+pub fn paint(sheet: &[u8], pitch: usize, px: &mut [u32], scratch: &mut [f32]) -> Reply {
+    unsafe { maldjupp_paint(sheet.as_ptr(), sheet.len(), pitch, px.as_mut_ptr(), px.len(), scratch.as_mut_ptr(), scratch.len()) }
 }
 
 /// Patches px, which shows the old sheet, to the new one.
-pub fn patch(old: &[u8], new: &[u8], px: &mut [u32], scratch: &mut [f32]) -> Reply {
+pub fn patch(old: &[u8], new: &[u8], pitch: usize, px: &mut [u32], scratch: &mut [f32]) -> Reply {
     unsafe {
         maldjupp_patch(
             old.as_ptr(),
             old.len(),
             new.as_ptr(),
             new.len(),
+            pitch,
             px.as_mut_ptr(),
             px.len(),
             scratch.as_mut_ptr(),
@@ -186,8 +197,8 @@ pub fn clip_order(number: usize, buf: &mut [u8]) -> Written {
 
 /// The calls of a canvas, each on its state and on px.
 impl State {
-    pub fn blank(w: i32, h: i32, px: &mut [u32]) -> Done {
-        unsafe { maldjupp_new(w, h, px.as_mut_ptr(), px.len()) }
+    pub fn blank(w: i32, h: i32, pitch: usize, px: &mut [u32]) -> Done {
+        unsafe { maldjupp_new(w, h, pitch, px.as_mut_ptr(), px.len()) }
     }
 
     pub fn resize(self, w: i32, h: i32, px: &mut [u32]) -> Done {
@@ -280,47 +291,99 @@ mod tests {
     /// A state of which each number is another; it is none that a canvas can be in.
     fn odd() -> State {
         let saved = std::array::from_fn(|i| IRect::new(100 + i as i32, 200 + i as i32, -300 - i as i32, 400 + i as i32));
-        State { w: 7, h: 9, clip: AREA, saved, depth: 1 << 40 }
+        State { w: 7, h: 9, pitch: 1 << 41, clip: AREA, saved, depth: 1 << 40 }
     }
 
-    /// Each field of a state comes back as it was given, and the number beside it; beside a shape's, no step.
-    #[test]
-    fn a_refused_state_comes_back() {
-        let px = &mut [5; 4];
+    /// Every call refuses a state by a number. Each field of it comes back as it was given, beside a shape's no step, and no pixel is altered.
+    fn every_call_refuses(state: State, px: &mut [u32], number: u32) {
+        let before = px.to_vec();
         let (rect, pt, brush) = (Rect::new(0.0, 0.0, 2.0, 2.0), Pt::new(1.0, 1.0), Brush::from(Paint::Solid(Color::WHITE)));
         let others = [
-            odd().resize(2, 2, px),
-            odd().push_clip(rect),
-            odd().push_clip_i(AREA),
-            odd().pop_clip(),
-            odd().clear(px, Color::WHITE),
+            state.resize(1, 2, px),
+            state.push_clip(rect),
+            state.push_clip_i(AREA),
+            state.pop_clip(),
+            state.clear(px, Color::WHITE),
         ];
-        assert!(others.iter().all(|done| done.number == 12 && done.state == odd()));
+        assert!(others.iter().all(|done| done.number == number && done.state == state));
         let shapes = [
-            odd().fill_rrect(px, rect, 1.0, brush),
-            odd().fill_rect(px, rect, brush),
-            odd().fill_circle(px, 1.0, 1.0, 1.0, brush),
-            odd().stroke_rrect(px, rect, 1.0, 1.0, Color::WHITE),
-            odd().ring(px, 1.0, 1.0, 1.0, 1.0, Color::WHITE),
-            odd().line(px, pt, pt, 1.0, Color::WHITE),
-            odd().polyline(px, &[pt; 3], 1.0, Color::WHITE),
-            odd().fill_poly(px, &[pt; 3], brush, &mut [0.0; 99]),
-            odd().shadow_rrect(px, rect, 1.0, 1.0, Color::WHITE, false),
+            state.fill_rrect(px, rect, 1.0, brush),
+            state.fill_rect(px, rect, brush),
+            state.fill_circle(px, 1.0, 1.0, 1.0, brush),
+            state.stroke_rrect(px, rect, 1.0, 1.0, Color::WHITE),
+            state.ring(px, 1.0, 1.0, 1.0, 1.0, Color::WHITE),
+            state.line(px, pt, pt, 1.0, Color::WHITE),
+            state.polyline(px, &[pt; 3], 1.0, Color::WHITE),
+            state.fill_poly(px, &[pt; 3], brush, &mut [0.0; 99]),
+            state.shadow_rrect(px, rect, 1.0, 1.0, Color::WHITE, false),
         ];
-        assert!(shapes.iter().all(|drawn| drawn.number == 12 && drawn.state == odd() && drawn.steps == 0));
-        assert_eq!((odd().bounds().number, odd().clip().number, odd().get(px, 0, 0).number), (12, 12, 12));
-        assert_eq!(*px, [5; 4]);
+        assert!(shapes.iter().all(|drawn| drawn.number == number && drawn.state == state && drawn.steps == 0));
+        assert_eq!((state.bounds().number, state.clip().number, state.get(px, 0, 0).number), (number, number, number));
+        assert_eq!((state.bounds().area, state.clip().area, state.get(px, 0, 0).value), (IRect::default(), IRect::default(), 0));
+        assert_eq!(*px, before);
     }
 
-    /// A paint kind over 3 is refused by 5, after 12, 8 and 13 and before 6 and 9.
+    #[test]
+    fn a_refused_state_comes_back() {
+        every_call_refuses(odd(), &mut [5; 4], 12);
+    }
+
+    /// 15 for a pitch below the width or over 4,096, whatever the pixels are, after 12.
+    #[test]
+    fn a_pitch_out_of_range_is_refused() {
+        let state = State::blank(2, 2, 3, &mut [0; 6]).state;
+        for pitch in [0, 1, 4097, 1 << 32, usize::MAX] {
+            for words in [0, 4, 6] {
+                every_call_refuses(State { pitch, ..state }, &mut vec![5; words], 15);
+                every_call_refuses(State { pitch, depth: 17, ..state }, &mut vec![5; words], 12);
+            }
+        }
+        // One as long as the width is sound, and so is the longest.
+        for pitch in [2, 4096] {
+            let px = &mut vec![5; 2 * pitch];
+            let done = State { pitch, ..state }.clear(px, Color::WHITE);
+            assert_eq!((done.number, done.state), (0, State { pitch, ..state }));
+            let expected = |i: usize| if i % pitch < 2 { 0xFF_FFFF } else { 5 };
+            assert!((0..2 * pitch).all(|i| px[i] == expected(i)));
+        }
+    }
+
+    /// A refused `new` gives a state of zeros, and its tests stand in the order 2, 15, 8.
+    #[test]
+    fn a_refused_new_gives_zeros() {
+        let zeros = State { w: 0, h: 0, pitch: 0, clip: IRect::default(), saved: [IRect::default(); 16], depth: 0 };
+        let cases = [(2049, 1, 0, 2), (2, 2049, 9000, 2), (3, 2, 2, 15), (3, 2, 4097, 15), (-3, 2, 0, 15), (2, 2, 2, 8), (2, 2, 4, 8)];
+        for (w, h, pitch, number) in cases {
+            let px = &mut [5; 6];
+            let done = State::blank(w, h, pitch, px);
+            assert_eq!((done.number, done.state, *px), (number, zeros, [5; 6]), "{w} {h} {pitch}");
+        }
+        let px = &mut [5; 6];
+        assert_eq!((State::blank(2, 2, 3, px).number, *px), (0, [0, 0, 5, 0, 0, 5]));
+    }
+
+    /// `resize` keeps the pitch; 15 for the pitch of the state by its own width, or below the width that is wanted, after 12 and 2 and before 8.
+    #[test]
+    fn resize_keeps_the_pitch() {
+        let state = State::blank(2, 2, 4, &mut [0; 8]).state;
+        let px = &mut [5; 8];
+        assert_eq!((state.resize(5, 2049, px).number, state.resize(5, 9, px).number, state.resize(4, 3, px).number), (2, 15, 8));
+        assert_eq!(State { w: 4, pitch: 3, ..state }.resize(1, 2, px).number, 15);
+        assert_eq!((state.resize(2, 2, px).state, *px), (state, [5; 8]));
+        let done = state.resize(3, 0, &mut px[..4]);
+        assert_eq!((done.number, done.state.w, done.state.h, done.state.pitch, *px), (0, 3, 1, 4, [0, 0, 0, 5, 5, 5, 5, 5]));
+    }
+
+    /// A paint kind over 3 is refused by 5, after 12, 15, 8 and 13 and before 6 and 9.
     #[test]
     fn a_kind_over_3_is_refused() {
         let px = &mut [0; 4];
-        let state = State::blank(2, 2, px).state;
+        let state = State::blank(2, 2, 2, px).state;
         let (bad, fit, points) = (Rect::new(f32::NAN, 0.0, 2.0, 2.0), Rect::new(0.0, 0.0, 2.0, 2.0), [Pt::new(0.0, 9000.0); 65]);
         for kind in [4, 5, 255, 256, u32::MAX] {
             let brush = Brush { kind, colors: [Color::WHITE; 2], floats: [f32::NAN; 4] };
             assert_eq!(odd().fill_rect(px, fit, brush).number, 12);
+            assert_eq!(State { pitch: 1, ..state }.fill_rect(&mut [0; 3], fit, brush).number, 15);
             assert_eq!(state.fill_rect(&mut [0; 3], fit, brush).number, 8);
             assert_eq!(state.fill_poly(px, &points, brush, &mut []).number, 13);
             let fives = [
@@ -339,14 +402,15 @@ mod tests {
     fn the_answers_have_their_places() {
         let reply = [offset_of!(Reply, area), offset_of!(Reply, steps), offset_of!(Reply, grounded), size_of::<Reply>()];
         assert_eq!(reply, [8, 24, 32, 40]);
-        assert_eq!([offset_of!(Counted, state), offset_of!(Counted, steps), size_of::<Counted>()], [8, 296, 304]);
+        assert_eq!([offset_of!(Counted, state), offset_of!(Counted, steps), size_of::<Counted>()], [8, 304, 312]);
+        assert_eq!([offset_of!(State, pitch), offset_of!(State, clip), offset_of!(State, depth), size_of::<State>()], [8, 16, 288, 296]);
     }
 
     /// A shape counts the words that differ, also where the uppermost byte alone does.
     #[test]
     fn a_shape_counts_whole_words() {
         let held = [0x00FF_FFFF, 0xFFFF_FFFF, 0x01FF_FFFF, 0x00FF_FFFE];
-        let state = State::blank(2, 2, &mut held.clone()).state;
+        let state = State::blank(2, 2, 2, &mut held.clone()).state;
         let (all, white) = (Rect::new(-1.0, -1.0, 9.0, 9.0), |a| Brush::from(Paint::Solid(Color::rgba(255, 255, 255, a))));
         for (alpha, steps) in [(255, 3), (0, 0)] {
             let px = &mut held.clone();
@@ -360,7 +424,7 @@ mod tests {
     #[test]
     fn what_a_paint_does_not_use_is_free() {
         let px = &mut [0; 1];
-        let state = State::blank(1, 1, px).state;
+        let state = State::blank(1, 1, 1, px).state;
         let brush = Brush { kind: 0, colors: [Color::rgb(1, 2, 3), Color::WHITE], floats: [f32::NAN; 4] };
         assert_eq!(state.fill_rect(px, Rect::new(-1.0, -1.0, 9.0, 9.0), brush).number, 0);
         assert_eq!(*px, [0x0001_0203]);

@@ -31,6 +31,8 @@ pub enum Refusal {
     Points,
     /// 14
     Many,
+    /// 15
+    Pitch,
     /// 19
     Buffer,
     /// 23
@@ -41,7 +43,7 @@ pub enum Refusal {
 
 impl Refusal {
     /// Every refusal that a call gives.
-    pub const ALL: [Refusal; 15] = [
+    pub const ALL: [Refusal; 16] = [
         Refusal::SheetLength,
         Refusal::Header,
         Refusal::Pairs,
@@ -55,6 +57,7 @@ impl Refusal {
         Refusal::State,
         Refusal::Points,
         Refusal::Many,
+        Refusal::Pitch,
         Refusal::Buffer,
         Refusal::Order,
     ];
@@ -75,6 +78,7 @@ impl Refusal {
             Refusal::State => 12,
             Refusal::Points => 13,
             Refusal::Many => 14,
+            Refusal::Pitch => 15,
             Refusal::Buffer => 19,
             Refusal::Order => 23,
             Refusal::Other(number) => number,
@@ -99,12 +103,13 @@ impl Refusal {
             Refusal::ZeroByte => "A zero byte of the item is filled, its paint kind is over 3 or its skip_inside over 1.",
             Refusal::Float => "A float is not finite or past 8,192 either way.",
             Refusal::Clips => "A clip is pushed while 16 are saved.",
-            Refusal::Pixels => "The pixels lent are not width times height.",
+            Refusal::Pixels => "The pixels lent are not pitch times height.",
             Refusal::Scratch => "The scratch lent is less than is needed.",
             Refusal::Difference => "The sheets differ in size, ground or item count, or in a push or pop of a clip.",
             Refusal::State => "The state is none that a canvas can be in.",
             Refusal::Points => "A polygon or polyline has over 64 points.",
             Refusal::Many => "The sheets differ in more than 32 shapes.",
+            Refusal::Pitch => "The pitch is below the width or over 4,096.",
             Refusal::Buffer => "The sheet does not fit the buffer.",
             Refusal::Order => "There is no clip order of this number: it is 1,093 or more.",
             Refusal::Other(_) => "The library gave a number that this crate does not know.",

@@ -471,22 +471,22 @@ impl SheetBuilder {
     }
 }
 
-/// Pixels of a canvas; 0 where a side is outside 1 to 2,048.
-pub(crate) fn area(w: u32, h: u32) -> usize {
+/// The sides of a canvas; zeros where one is outside 1 to 2,048.
+pub(crate) fn sides(w: u32, h: u32) -> (usize, usize) {
     if SIDES.contains(&w) && SIDES.contains(&h) {
-        w as usize * h as usize
+        (w as usize, h as usize)
     } else {
-        0
+        (0, 0)
     }
 }
 
-/// Pixels of a sheet's canvas; 0 where the library refuses the sheet by its length or sides.
-pub(crate) fn pixels(sheet: &[u8]) -> usize {
+/// The sides of a sheet's canvas; zeros where the library refuses the sheet by its length or sides.
+pub(crate) fn sides_of(sheet: &[u8]) -> (usize, usize) {
     match sheet {
         [a, b, c, d, ..] if (HEADER..=MOST_BYTES).contains(&sheet.len()) => {
             let [w, h] = [[*a, *b], [*c, *d]].map(|side| u32::from(u16::from_le_bytes(side)));
-            area(w, h)
+            sides(w, h)
         }
-        _ => 0,
+        _ => (0, 0),
     }
 }

@@ -1,7 +1,9 @@
 //! The ticket: a sheet, and the pixels that show it.
-use crate::{raw, sheet, Error, IRect, Refusal, Refused, Shape, SheetBuilder, SheetError};
+use crate::{frame, raw, sheet, Error, IRect, Refusal, Refused, Shape, SheetBuilder, SheetError};
 
 /// A painted sheet with its pixels. They are always those of its sheet, whatever was edited or refused before.
+///
+/// A `Ticket` owns its pixels; a [`FramedTicket`] borrows them, within a frame whose rows are longer. Both have the same calls.
 ///
 /// ```
 /// use maldjupp::{Altered, Color, IRect, Rect, Shape, SheetBuilder, Ticket};
@@ -22,12 +24,38 @@ use crate::{raw, sheet, Error, IRect, Refusal, Refused, Shape, SheetBuilder, She
 /// # Ok::<(), Box<dyn std::error::Error>>(())
 /// ```
 #[derive(Clone, Debug)]
-pub struct Ticket {
+pub struct Ticket<P = Vec<u32>> {
     sheet: Vec<u8>,
-    px: Vec<u32>,
+    pitch: usize,
+    px: P,
     scratch: Vec<f32>,
     altered: Altered,
 }
+
+/// A ticket within a lent frame, whose rows may be longer than the canvas. It is made by [`Ticket::paint_in`].
+///
+/// While it borrows the frame nothing else writes its pixels, so that they are always those of its sheet; the words beside them can be written
+/// by [`Ticket::margin_mut`].
+///
+/// ```
+/// use maldjupp::{to_ppm, Color, Rect, Shape, SheetBuilder, Ticket};
+/// let bar = |kg: f32| Shape::fill_rect(Rect::new(10.0, 20.0, kg / 400.0, 6.0), Color::rgb(32, 122, 78));
+/// let mut b = SheetBuilder::new(120, 80, Color::WHITE)?;
+/// let net = b.add(&bar(18_000.0))?;
+///
+/// // A terminal of 200 by 100. The ticket begins at column 30 and row 5, and is lent 80 rows from there.
+/// let (pitch, first) = (200, 5 * 200 + 30);
+/// let mut terminal = vec![0x0036_4452; 200 * 100];
+/// let mut ticket = Ticket::paint_in(&mut terminal[first..][..80 * pitch], pitch, &b)?;
+/// ticket.replace(net, bar(18_220.0))?;
+/// assert!(ticket.rows().eq(Ticket::paint(&ticket.builder())?.rows()));
+///
+/// assert_eq!((terminal[first - 1], terminal[first], terminal[first + 119], terminal[first + 120]), (0x36_4452, 0xFF_FFFF, 0xFF_FFFF, 0x36_4452));
+/// // The whole terminal as a picture.
+/// assert!(to_ppm(pitch, &terminal).starts_with(b"P6\n200 100\n255\n"));
+/// # Ok::<(), Box<dyn std::error::Error>>(())
+/// ```
+pub type FramedTicket<'a> = Ticket<&'a mut [u32]>;
 
 /// What an accepted painting or patch altered: where, and how busy it was.
 #[derive(Clone, Copy, Debug, PartialEq, Eq, Default)]
@@ -40,7 +68,7 @@ pub struct Altered {
     /// held.
     pub steps: u64,
     /// How many pixels of the box the filling with the ground altered, by their value too: this hangs on what the pixels held. Before its
-    /// painting a ticket's pixels are 0, so that painting a black ground alters none, and any other all of them.
+    /// painting the pixels that a ticket owns are 0, so that painting a black ground alters none, and any other all of them.
     pub grounded: u64,
 }
 
@@ -56,10 +84,33 @@ impl Ticket {
 
     /// Paints a sheet given as bytes, which may be any.
     pub fn from_bytes(sheet: Vec<u8>) -> Result<Ticket, Refused> {
-        let mut px = vec![0; sheet::pixels(&sheet)];
+        let (w, h) = sheet::sides_of(&sheet);
+        Ticket::on(vec![0; w * h], w, sheet)
+    }
+}
+
+impl<'a> FramedTicket<'a> {
+    /// Paints what a builder holds into a lent frame, whose rows are `pitch` words long: the pixel at column x and row y is
+    /// `frame[y * pitch + x]`. The words of a row past the width stay as they are, in every call.
+    ///
+    /// Refused: [`Refusal::Pitch`] for a pitch outside the width to 4,096, then [`Refusal::Pixels`] where the frame is not pitch times height,
+    /// the last row whole too. Then the frame is as it was.
+    pub fn paint_in(frame: &'a mut [u32], pitch: usize, sheet: &SheetBuilder) -> Result<FramedTicket<'a>, Refused> {
+        Ticket::from_bytes_in(frame, pitch, sheet.bytes())
+    }
+
+    /// Paints a sheet given as bytes, which may be any, into a lent frame, as [`Ticket::paint_in`] does.
+    pub fn from_bytes_in(frame: &'a mut [u32], pitch: usize, sheet: Vec<u8>) -> Result<FramedTicket<'a>, Refused> {
+        Ticket::on(frame, pitch, sheet)
+    }
+}
+
+impl<P: AsRef<[u32]> + AsMut<[u32]>> Ticket<P> {
+    /// Paints a sheet on pixels, rows of so many words.
+    fn on(mut px: P, pitch: usize, sheet: Vec<u8>) -> Result<Ticket<P>, Refused> {
         let mut scratch = vec![0.0; raw::measure(&sheet).words];
-        let altered = answer(raw::paint(&sheet, &mut px, &mut scratch))?;
-        Ok(Ticket { sheet, px, scratch, altered })
+        let altered = answer(raw::paint(&sheet, pitch, px.as_mut(), &mut scratch))?;
+        Ok(Ticket { sheet, pitch, px, scratch, altered })
     }
 
     /// Patches the ticket to a new sheet, which may be any bytes, and returns what was altered. Up to 32 shapes may differ. Refused, the
@@ -69,7 +120,7 @@ impl Ticket {
     /// sheet whose reach shares a pixel with the box, a polyline standing once for each of its lines whose reach does; [`Altered::grounded`]
     /// is at most the area, and an empty box has 0 for both. A shape's reach is its box before any clip ([`Shape`]).
     pub fn patch(&mut self, new: Vec<u8>) -> Result<Altered, Refused> {
-        let mut patch = |scratch: &mut [f32]| answer(raw::patch(&self.sheet, &new, &mut self.px, scratch));
+        let mut patch = |scratch: &mut [f32]| answer(raw::patch(&self.sheet, &new, self.pitch, self.px.as_mut(), scratch));
         let mut altered = patch(&mut self.scratch);
         // A patch that is refused alters nothing, so it can be tried again with what the new sheet needs.
         if altered.is_err_and(|refused| refused.refusal == Refusal::Scratch) {
@@ -128,9 +179,36 @@ impl Ticket {
         &self.sheet
     }
 
-    /// The pixels, row by row, each 0x00RRGGBB.
+    /// The words as they lie: the pixels row by row, each 0x00RRGGBB, and within a frame after each row the words past the width.
     pub fn px(&self) -> &[u32] {
-        &self.px
+        self.px.as_ref()
+    }
+
+    /// The words of a row: the width, but within a frame.
+    pub fn pitch(&self) -> usize {
+        self.pitch
+    }
+
+    /// The pixels of a row, as many as the canvas is wide.
+    ///
+    /// # Panics
+    /// Where there is no such row.
+    pub fn row(&self, y: usize) -> &[u32] {
+        frame::row(self.px(), self.pitch, self.width(), y)
+    }
+
+    /// The pixels, one row after the other.
+    pub fn rows(&self) -> impl ExactSizeIterator<Item = &[u32]> {
+        frame::rows(self.px(), self.pitch, self.width())
+    }
+
+    /// The words of a row past the width, none where the ticket owns its pixels. They are the caller's to write, and no call alters them.
+    ///
+    /// # Panics
+    /// Where there is no such row.
+    pub fn margin_mut(&mut self, y: usize) -> &mut [u32] {
+        let width = self.width();
+        frame::margin(self.px.as_mut(), self.pitch, width, y)
     }
 
     /// The canvas's width.
@@ -143,18 +221,10 @@ impl Ticket {
         u16::from_le_bytes([self.sheet[2], self.sheet[3]]).into()
     }
 
-    /// The picture as a PPM file.
+    /// The picture as a PPM file: the canvas's columns alone.
     pub fn to_ppm(&self) -> Vec<u8> {
-        to_ppm(self.width(), &self.px)
+        frame::picture(self.width(), self.rows())
     }
-}
-
-/// Pixels, rows of so many, as a PPM file. A last row that is not whole is left out.
-pub fn to_ppm(width: usize, px: &[u32]) -> Vec<u8> {
-    let rows = px.chunks_exact(width.max(1));
-    let mut file = format!("P6\n{width} {}\n255\n", rows.len()).into_bytes();
-    file.extend(rows.flatten().flat_map(|p| [(p >> 16) as u8, (p >> 8) as u8, *p as u8]));
-    file
 }
 
 #[cfg(test)]
@@ -165,11 +235,11 @@ mod tests {
     #[test]
     fn wrong_pixels_are_refused() {
         let sheet = SheetBuilder::new(4, 1, Color::BLACK).unwrap().bytes();
-        let reply = raw::paint(&sheet, &mut [0; 3], &mut []);
+        let reply = raw::paint(&sheet, 4, &mut [0; 3], &mut []);
         assert_eq!(answer(reply), Err(Refused { refusal: Refusal::Pixels, item: 0 }));
         let whole = Altered { area: IRect::new(0, 0, 4, 1), steps: 0, grounded: 0 };
-        assert_eq!(answer(raw::paint(&sheet, &mut [0; 4], &mut [])), Ok(whole));
-        assert_eq!(answer(raw::paint(&sheet, &mut [0, 1, 1 << 24, 0], &mut [])), Ok(Altered { grounded: 2, ..whole }));
+        assert_eq!(answer(raw::paint(&sheet, 4, &mut [0; 4], &mut [])), Ok(whole));
+        assert_eq!(answer(raw::paint(&sheet, 4, &mut [0, 1, 1 << 24, 0], &mut [])), Ok(Altered { grounded: 2, ..whole }));
     }
 
     /// A ticket lends what the library tells of its sheet, and more for a patch to a larger polygon. A refused patch alters nothing.
@@ -234,8 +304,8 @@ mod tests {
                 (0..held.len()).filter(|i| inside(*i) && held[*i] != GROUND).count() as u64
             };
             let after = |altered: Altered| Ok(Altered { grounded: not_ground(altered.area), ..altered });
-            assert_eq!(answer(raw::paint(&new, &mut held.clone(), &mut [])), after(painted));
-            assert_eq!(answer(raw::patch(&old, &new, &mut held.clone(), &mut [])), after(patched));
+            assert_eq!(answer(raw::paint(&new, 24, &mut held.clone(), &mut [])), after(painted));
+            assert_eq!(answer(raw::patch(&old, &new, 24, &mut held.clone(), &mut [])), after(patched));
         }
     }
 
@@ -247,12 +317,16 @@ mod tests {
         let blur = new.len() - 8;
         bad[blur..blur + 4].copy_from_slice(&f32::NAN.to_le_bytes());
         let all = [
-            (3, 0, raw::paint(short, px, &mut [])),
-            (6, 5, raw::paint(&bad, px, &mut [])),
-            (8, 0, raw::paint(&new, &mut px[1..], &mut [])),
-            (3, 0, raw::patch(short, &new, px, &mut [])),
-            (6, 5, raw::patch(&old, &bad, px, &mut [])),
-            (8, 0, raw::patch(&old, &new, &mut px[1..], &mut [])),
+            (3, 0, raw::paint(short, 24, px, &mut [])),
+            (6, 5, raw::paint(&bad, 0, px, &mut [])),
+            (15, 0, raw::paint(&new, 23, px, &mut [])),
+            (8, 0, raw::paint(&new, 24, &mut px[1..], &mut [])),
+            (3, 0, raw::patch(short, &new, 24, px, &mut [])),
+            (6, 5, raw::patch(&old, &bad, 0, px, &mut [])),
+            (15, 0, raw::patch(&old, &new, 4097, &mut px[1..], &mut [])),
+            (8, 0, raw::patch(&old, &new, 24, &mut px[1..], &mut [])),
+            // Within its range, another pitch than that of the pixels lent.
+            (8, 0, raw::patch(&old, &new, 25, px, &mut [])),
         ];
         for (number, item, reply) in all {
             assert_eq!((reply.number, reply.item, reply.area, reply.steps, reply.grounded), (number, item, IRect::default(), 0, 0));

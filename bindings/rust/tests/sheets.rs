@@ -291,7 +291,7 @@ fn every_number_has_its_sentence() {
         assert!(refusal.sentence().ends_with('.'));
     }
     assert_eq!(Refusal::of(0), None);
-    assert_eq!(Refusal::of(15), Some(Refusal::Other(15)));
+    assert_eq!(Refusal::of(16), Some(Refusal::Other(16)));
 }
 
 /// Any bytes: the answer is a ticket or a refusal, and measuring gives the same refusal.
