@@ -501,7 +501,7 @@ static void frames(float *scratch, size_t words) {
     check("painted within a frame: the same answer",
           is_altered(maldjupp_paint(old, n, PITCH, frame, FRAME, scratch, words), 0, 0, W, H, 308 + 25 + 18 + 10, W * H));
     check("the same pixels, the words beside them kept", shows(frame, PITCH, px) && kept(frame, PITCH, W));
-    check("patched within it: the same box and counts",
+    check("a patch within it: the same box and counts",
           is_altered(maldjupp_patch(old, n, new, m, PITCH, frame, FRAME, scratch, words), 3, 3, 15, 13, 120 + 25 + 24, 120));
     maldjupp_paint(new, m, W, px, W * H, scratch, words);
     check("the same pixels, the words beside them kept", shows(frame, PITCH, px) && kept(frame, PITCH, W));

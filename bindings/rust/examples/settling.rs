@@ -1,9 +1,11 @@
 //! Paints the first sheet of a folder and patches the ticket through the others: `settling FOLDER OUT`.
 //!
 //! After every patch the pixels must be those of a fresh painting, none outside the returned box altered, and as many grounded as were not
-//! the ground in it. Prints of each call how many steps of a shape altered a pixel, and how many pixels the ground altered. Writes
-//! start.ppm, ticket.ppm (the last) and boxes.ppm (the last, paled, with every box outlined) into OUT.
-use maldjupp::{room, to_ppm, Altered, IRect, Room, Ticket};
+//! the ground in it. The same is done within a terminal's frame, whose rows are longer than the canvas: the pixels and the answers of its patches
+//! must be the same there, and every word around as it was. Prints of each call how many steps of a shape altered a pixel, and how many pixels
+//! the ground altered. Writes start.ppm, ticket.ppm (the last), frame.ppm (the last, within the frame) and boxes.ppm (the last, paled, with every
+//! box outlined) into OUT.
+use maldjupp::{room, to_ppm, Altered, FramedTicket, IRect, Room, Ticket};
 use std::{env, error::Error, fs, path::Path, path::PathBuf};
 
 /// The colour of a box's outline, by the word in its sheet's name.
@@ -48,6 +50,48 @@ fn patch(ticket: &mut Ticket, name: &str, new: Vec<u8>) -> Result<Altered, Box<d
     Ok(altered)
 }
 
+/// A terminal's frame around a ticket, so many columns left and right of it, and rows above and below.
+struct Frame {
+    width: usize,
+    height: usize,
+    px: Vec<u32>,
+}
+
+impl Frame {
+    const ASIDE: usize = 60;
+    const ABOVE: usize = 40;
+
+    /// A frame around a ticket, with slanting stripes.
+    fn around(ticket: &Ticket) -> Frame {
+        let (width, height) = (ticket.width() + 2 * Frame::ASIDE, ticket.height() + 2 * Frame::ABOVE);
+        let px = (0..width * height).map(|i| Frame::stripe(i % width, i / width)).collect();
+        Frame { width, height, px }
+    }
+
+    fn stripe(x: usize, y: usize) -> u32 {
+        [0x0036_4452, 0x002A_3440][(x + y) / 10 % 2]
+    }
+
+    /// Paints a sheet in the middle.
+    fn paint(&mut self, sheet: Vec<u8>) -> Result<FramedTicket<'_>, Box<dyn Error>> {
+        let first = Frame::ABOVE * self.width + Frame::ASIDE;
+        let words = self.width * (self.height - 2 * Frame::ABOVE);
+        Ok(Ticket::from_bytes_in(&mut self.px[first..][..words], self.width, sheet)?)
+    }
+
+    /// Whether the ticket stands in the middle, and the stripes around it.
+    fn shows(&self, ticket: &Ticket) -> bool {
+        let expected = |i: usize| {
+            let (x, y) = (i % self.width, i / self.width);
+            match (x.wrapping_sub(Frame::ASIDE), y.wrapping_sub(Frame::ABOVE)) {
+                (column, row) if column < ticket.width() && row < ticket.height() => ticket.row(row)[column],
+                _ => Frame::stripe(x, y),
+            }
+        };
+        (0..self.px.len()).all(|i| self.px[i] == expected(i))
+    }
+}
+
 fn main() -> Result<(), Box<dyn Error>> {
     let given: Vec<String> = env::args().skip(1).collect();
     let [folder, out] = &given[..] else { return Err("usage: settling FOLDER OUT".into()) };
@@ -64,21 +108,32 @@ fn main() -> Result<(), Box<dyn Error>> {
     println!("{pixels} pixels in its shapes, {painted} steps, {grounded} grounded");
     fs::write(out.join("start.ppm"), ticket.to_ppm())?;
 
+    let mut frame = Frame::around(&ticket);
+    let mut framed = frame.paint(ticket.sheet().to_vec())?;
     let (mut boxes, mut patched) = (vec![], 0);
     for file in others {
         let name = file.file_stem().unwrap_or_default().to_string_lossy().into_owned();
-        let Altered { area, steps, grounded } = patch(&mut ticket, &name, fs::read(file)?)?;
+        let altered = patch(&mut ticket, &name, fs::read(file)?)?;
+        if framed.patch(ticket.sheet().to_vec())? != altered || !framed.rows().eq(ticket.rows()) {
+            return Err(format!("{name}: within the frame the answer or the pixels are others").into());
+        }
+        let Altered { area, steps, grounded } = altered;
         let (bw, bh) = (area.x1 - area.x0, area.y1 - area.y0);
         println!("patched {name:<10} box {bw:>3} x {bh:>3} at {:>3},{:>3}: {steps:>6} steps, {grounded:>6} grounded", area.x0, area.y0);
         boxes.push((area, outline(name.split_once('-').map_or("", |(_, word)| word))));
         patched += steps;
     }
     fs::write(out.join("ticket.ppm"), ticket.to_ppm())?;
+    if !frame.shows(&ticket) {
+        return Err("the frame does not show the ticket in its place, or was altered around it".into());
+    }
+    fs::write(out.join("frame.ppm"), to_ppm(frame.width, &frame.px))?;
 
     let mut px: Vec<u32> = ticket.px().iter().copied().map(paled).collect();
     boxes.iter().for_each(|(area, colour)| draw(&mut px, w, area, *colour));
     fs::write(out.join("boxes.ppm"), to_ppm(w, &px))?;
     println!("{} patches: after each, the pixels are those of a fresh painting, and none outside the box was altered", boxes.len());
+    println!("the same within a frame of {} x {}: the same pixels and answers, and every word around as it was", frame.width, frame.height);
     println!("steps that altered a pixel: {painted} of the painting, {patched} of all patches");
     Ok(())
 }
