@@ -8,15 +8,15 @@ use Rattle.replay.proofs.patches.Statement.{statement}
 use Rattle.replay.proofs.patches.Tie as tie
 
 abbrev Inv-loop : tie.InvT-loop
-Inv-loop sheets start lens px₀ scratch₀ s₀ at₀ k₀ px scratch s at k = Running sheets lens s₀ at₀ px₀ (length scratch₀) s at k px (length scratch)
+Inv-loop sheets start lens pitch px₀ scratch₀ s₀ at₀ k₀ px scratch s at k = Running sheets lens s₀ at₀ pitch px₀ (length scratch₀) s at k px (length scratch)
 
 abbrev μ-loop : tie.MeasureT-loop
-μ-loop sheets start lens px₀ scratch₀ s₀ at₀ k₀ px scratch s at k = length lens - k
+μ-loop sheets start lens pitch px₀ scratch₀ s₀ at₀ k₀ px scratch s at k = length lens - k
 
 loop-holds : tie.Need-loop-holds Inv-loop μ-loop
 loop-holds c =
     let s = c .before .before .before .before in
-    running-first (s .args .sheets .now) (s .args .lens .now) (s .args .state) (s .args .start) (s .args .px .now) (length (s .args .scratch .now)) (s .pre .0) (s .pre .1) (s .pre .2)
+    running-first (s .args .sheets .now) (s .args .lens .now) (s .args .state) (s .args .start) (s .args .pitch) (s .args .px .now) (length (s .args .scratch .now)) (s .pre .0) (s .pre .1) (s .pre .2)
 
 mul-n : tie.Need-mul-n Inv-loop μ-loop
 mul-n c = search needs
@@ -37,7 +37,7 @@ returns : tie.Need-returns Inv-loop μ-loop
 returns c =
     let s = c .before .before .before .before .before .before .before .before in
     let l = c .before .before .before .loop in
-    runs-end (s .args .sheets .now) (s .args .lens .now) (s .args .state) (s .args .start) (s .args .px .now) (length (s .args .scratch .now)) (l .s) (l .at) (l .k) (l .px) (length (l .scratch)) (l .inv)
+    runs-end (s .args .sheets .now) (s .args .lens .now) (s .args .state) (s .args .start) (s .args .pitch) (s .args .px .now) (length (s .args .scratch .now)) (l .s) (l .at) (l .k) (l .px) (length (l .scratch)) (l .inv)
     (cut-short (s .args .lens .now) (s .args .sheets .now) (l .k) (l .at) (c .before .before .loop-test .taken) (c .if1 .taken))
 
 add-end : tie.Need-add-end Inv-loop μ-loop
@@ -56,7 +56,7 @@ loop-again : tie.Need-loop-again Inv-loop μ-loop
 loop-again c =
     let s = c .before .before .before .before .before .before .before .before .before .before .before .before .before .before .before in
     let l = c .before .before .before .before .before .before .before .before .before .before .loop in
-    running-next (s .args .sheets .now) (s .args .lens .now) (s .args .state) (s .args .start) (s .args .px .now) (length (s .args .scratch .now)) (l .s) (l .at) (l .k) (l .px) (l .scratch) _ _ _ (l .inv) (c .before .before .before .before .before .before .before .before .before .loop-test .taken) (c .before .before .before .before .before .before .before .if1 .left) (c .before .before .before .before .advance .ensures)
+    running-next (s .args .sheets .now) (s .args .lens .now) (s .args .state) (s .args .start) (s .args .pitch) (s .args .px .now) (length (s .args .scratch .now)) (l .s) (l .at) (l .k) (l .px) (l .scratch) _ _ _ (l .inv) (c .before .before .before .before .before .before .before .before .before .loop-test .taken) (c .before .before .before .before .before .before .before .if1 .left) (c .before .before .before .before .advance .ensures)
 
 same-length-3 : tie.Need-same-length-3 Inv-loop μ-loop
 same-length-3 c = search needs
@@ -68,7 +68,7 @@ returns-2 : tie.Need-returns-2 Inv-loop μ-loop
 returns-2 c =
     let s = c .before .before .before .before .before .before in
     let l = c .before .loop in
-    runs-end (s .args .sheets .now) (s .args .lens .now) (s .args .state) (s .args .start) (s .args .px .now) (length (s .args .scratch .now)) (l .s) (l .at) (l .k) (l .px) (length (l .scratch)) (l .inv)
+    runs-end (s .args .sheets .now) (s .args .lens .now) (s .args .state) (s .args .start) (s .args .pitch) (s .args .px .now) (length (s .args .scratch .now)) (l .s) (l .at) (l .k) (l .px) (length (l .scratch)) (l .inv)
     (cut-done (s .args .lens .now) (s .args .sheets .now) (l .k) (l .at) (c .loop-test .left))
 
 pub patches-spec : {M : Type 1} → statement M

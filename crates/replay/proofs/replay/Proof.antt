@@ -28,7 +28,7 @@ same-length-2 c = search needs
 returns-2 : tie.Need-returns-2
 returns-2 c = λ h yes.
     let s = c .before .before .before .before .before .before .before .before .before .before .before .before .before .before .before in
-    absurd (c .if2 .taken (painted-zero (s .args .sheets .now) (s .args .first) (s .args .lens .now) (s .args .px .now) (s .args .scratch .now) _ _ _ (c .before .before .before .before .before .before .paint .ensures) yes))
+    absurd (c .if2 .taken (painted-zero (s .args .sheets .now) (s .args .first) (s .args .lens .now) (s .args .pitch) (s .args .px .now) (s .args .scratch .now) _ _ _ (c .before .before .before .before .before .before .paint .ensures) yes))
 
 patches-requires : tie.Need-patches-requires
 patches-requires c κs = search needs
@@ -42,7 +42,7 @@ same-length-4 c = search needs
 returns-3 : tie.Need-returns-3
 returns-3 c = λ h yes.
     let s = c .before .before .before .before .before .before .before .before .before .before .before .before .before .before .before .before .before .before .before .before .before .before in
-    replays (s .args .sheets .now) (s .args .first) (s .args .lens .now) (s .args .px .now) (s .args .scratch .now) _ _ _ (c .before .before .before .before .before .before .before .before .before .before .before .before .before .paint .ensures) yes _ _ (c .before .before .before .before .patches .ensures)
+    replays (s .args .sheets .now) (s .args .first) (s .args .lens .now) (s .args .pitch) (s .args .px .now) (s .args .scratch .now) _ _ _ (c .before .before .before .before .before .before .before .before .before .before .before .before .before .paint .ensures) yes _ _ (c .before .before .before .before .patches .ensures)
 
 pub replay-spec : {M : Type 1} → statement M
 replay-spec =
