@@ -71,13 +71,7 @@ pub fn lent_number(s: &[u8], pitch: usize, n: usize, words: usize) -> u32
 }
 
 // Sets an area to the ground, and draws the sheet with the area as first clip: the reply of an accepted call.
-pub fn draw_in(
-    s: &[u8],
-    pitch: usize,
-    area: IRect,
-    px: &mut [u32],
-    scratch: &mut [f32],
-) -> Reply
+pub fn draw_in(s: &[u8], pitch: usize, area: IRect, px: &mut [u32], scratch: &mut [f32]) -> Reply
     ensures { λ r. ⌜ DrewSheet (now (s .entry)) pitch area (now (px .entry)) (now (scratch .entry)) r (now (px .exit)) (now (scratch .exit)) ⌝ }
 {
     let state = first_state(s, pitch, area);

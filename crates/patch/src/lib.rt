@@ -11,13 +11,7 @@ ghost use Rattle.redraw.specs.Calls.{Patched};
 ghost use Rattle.patch.specs.Patch.{BothRead};
 
 // A patch between two sheets that were accepted: 10, 14, 15, 8, 9, or drawn.
-fn patch_read(
-    old: &[u8],
-    new: &[u8],
-    pitch: usize,
-    px: &mut [u32],
-    scratch: &mut [f32],
-) -> Reply
+fn patch_read(old: &[u8], new: &[u8], pitch: usize, px: &mut [u32], scratch: &mut [f32]) -> Reply
     requires { ⌜ BothRead (now old) (now new) ⌝ }
     ensures { λ r. ⌜ Patched zeroWord format (now (old .entry)) (now (new .entry)) pitch (now (px .entry)) (now (scratch .entry)) r (now (px .exit)) (now (scratch .exit)) ⌝ }
 {
@@ -37,13 +31,7 @@ fn patch_read(
 }
 
 // Patches px, which shows the old sheet, to the new one.
-pub fn patch(
-    old: &[u8],
-    new: &[u8],
-    pitch: usize,
-    px: &mut [u32],
-    scratch: &mut [f32],
-) -> Reply
+pub fn patch(old: &[u8], new: &[u8], pitch: usize, px: &mut [u32], scratch: &mut [f32]) -> Reply
     ensures { λ r. ⌜ Patched zeroWord format (now (old .entry)) (now (new .entry)) pitch (now (px .entry)) (now (scratch .entry)) r (now (px .exit)) (now (scratch .exit)) ⌝ }
 {
     let a = check_sheet(old);
