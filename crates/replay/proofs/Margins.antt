@@ -2,8 +2,8 @@
 --     kept-left      a call that leaves px where it is refused, and else what keeps them
 --     framed-kept    the pixels of a canvas set to one value
 --     drawn-kept     a shape under the clip of a valid state
-use mathlib.Core.Path.{_≡_, refl, sym, ap, _∙_}
-use mathlib.Core.Bool.{Bool, true, false, cond, _&&_}
+use mathlib.Core.Path.{_≡_, refl, ap, _∙_}
+use mathlib.Core.Bool.{Bool, true, false, cond}
 use mathlib.Core.List.{List}
 use mathlib.Core.Logic.{_⊎_}
 use Prim.Native.Nat.{ℕ, _*_, _/_, _%_, _≤_, _<_}
@@ -20,8 +20,8 @@ use Rattle.geom.specs.Box.{empty}
 use Rattle.geom.proofs.Bools.{split}
 use Rattle.geom.proofs.Boxes.{Within}
 use Rattle.geom.proofs.Refusals.{then-open}
-use Rattle.draw.specs.Draw.{onto, drawn}
-use Rattle.draw.specs.Areas.{within, inArea, clipTo}
+use Rattle.draw.specs.Draw.{drawn}
+use Rattle.draw.specs.Areas.{within, clipTo}
 use Rattle.draw.specs.Frame.{framed}
 use Rattle.draw.specs.Parts.{reachAll, inkAll}
 use Rattle.draw.proofs.Onto.{length-onto}
@@ -30,9 +30,9 @@ use Rattle.draw.proofs.Clips.{in-clip, clip-fits, length-shape, shape-at}
 use Rattle.draw.proofs.Frame.{framed-margin}
 use Rattle.gfx.specs.declared.Canvas.{Canvas}
 use Rattle.gfx.specs.State.{validOf}
-use Rattle.gfx.specs.Calls.{left, sameSize, resizedPx, pxNumber, shapeNumber, raised}
+use Rattle.gfx.specs.Calls.{left, sameSize, resizedPx, raised}
 use Rattle.gfx.specs.Points.{pointsNumber}
-use Rattle.gfx.proofs.Sizes.{open-of, shape-open}
+use Rattle.gfx.proofs.Sizes.{shape-open}
 use Rattle.gfx.proofs.Coords.{points-open}
 use Rattle.gfx.proofs.Valid.{side-of, valid-of, clip-cases, frame}
 use Rattle.paints.specs.Paints.{paintOk}
@@ -45,7 +45,7 @@ use Rattle.redraw.specs.Sheet.{Sheet, painting, patching, accepted}
 use Rattle.redraw.specs.Calls.{Painted, Patched}
 use Rattle.redraw.proofs.Lists.{paint-accepted, patch-accepted, refused-px, length-pixels}
 use Rattle.redraw.proofs.Frames.{painted-margin, patched-margin}
-use Rattle.items.specs.Format.{kind, sheetOf, format, zeroWord}
+use Rattle.items.specs.Format.{kind, format, zeroWord}
 use Rattle.items.proofs.Readings.{read-is}
 use Rattle.replay.specs.Margin.{Kept, Margin}
 
