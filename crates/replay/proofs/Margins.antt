@@ -30,12 +30,13 @@ use Rattle.draw.proofs.Clips.{in-clip, clip-fits, length-shape, shape-at}
 use Rattle.draw.proofs.Frame.{framed-margin}
 use Rattle.gfx.specs.declared.Canvas.{Canvas}
 use Rattle.gfx.specs.State.{validOf}
-use Rattle.gfx.specs.Calls.{left, sameSize, resizedPx, raised}
+use Rattle.gfx.specs.Calls.{andThen, left, sameSize, resizedPx, raised, pxNumber}
 use Rattle.gfx.specs.Points.{pointsNumber}
-use Rattle.gfx.proofs.Sizes.{shape-open}
+use Rattle.gfx.proofs.Sizes.{open-of, px-open, shape-open}
 use Rattle.gfx.proofs.Coords.{points-open}
 use Rattle.gfx.proofs.Valid.{side-of, valid-of, clip-cases, frame}
 use Rattle.paints.specs.Paints.{paintOk}
+use Rattle.fill.specs.Fill.{fillReach, fillInk}
 use Rattle.line.specs.Polylines.{chainOf}
 use Rattle.line.proofs.Joints.{polyline-drawn}
 use Rattle.poly.specs.Poly.{polyNumber, polyReach, polyInk}
@@ -47,6 +48,8 @@ use Rattle.redraw.proofs.Lists.{paint-accepted, patch-accepted, refused-px, len
 use Rattle.redraw.proofs.Frames.{painted-margin, patched-margin}
 use Rattle.items.specs.Format.{kind, format, zeroWord}
 use Rattle.items.proofs.Readings.{read-is}
+use Rattle.maldjupp.specs.declared.brush.Brush.{Brush}
+use Rattle.maldjupp.specs.Brushes.{paintOf, brushNumber, pointsBrushNumber}
 use Rattle.replay.specs.Margin.{Kept, Margin}
 
 kept-same : {pitch w : ℕ} {px px′ : List ℕ} → px′ ≡ px → Kept pitch w px px′
@@ -85,6 +88,18 @@ drawn-kept c reach ink px e = record { long = length-shape (c .pitch) (c .clip) 
 poly-valid : (c : Canvas) (n : ℕ) (pts : List Float) (paint : _) (words : ℕ) → polyNumber c n pts paint words ≡ 0 → validOf c ≡ true
 unfolding polyNumber
 poly-valid c n pts paint words e = points-open c n pts (paintOk paint) (then-open (pointsNumber c n pts (paintOk paint)) _ e .0) .canvas .valid
+
+-- a number that is 0 after that of state and px
+px-valid : (c : Canvas) (n rest : ℕ) → andThen (pxNumber c n) rest ≡ 0 → validOf c ≡ true
+px-valid c n rest e = px-open c n rest e .0 .valid
+
+brush-valid : (c : Canvas) (n : ℕ) (b : Brush) (ok : Bool) → brushNumber c n b ok ≡ 0 → validOf c ≡ true
+unfolding brushNumber
+brush-valid c n b ok e = px-valid c n _ e
+
+points-brush-valid : (c : Canvas) (n : ℕ) (pts : List Float) (b : Brush) (words : ℕ) → pointsBrushNumber c n pts b words ≡ 0 → validOf c ≡ true
+unfolding pointsBrushNumber
+points-brush-valid c n pts b words e = px-valid c n _ e
 
 module _ (sheet : List ℕ) (pitch : ℕ) (px : List ℕ) (scratch : List Float) (a : Reply) (px′ : List ℕ) (scratch′ : List Float) where
   painted-kept : Painted zeroWord format sheet pitch px scratch a px′ scratch′ → Kept pitch (widthOf sheet) px px′
@@ -131,6 +146,11 @@ margin =
           (drawn-kept c (reachAll (chainOf pts width color)) (inkAll (chainOf pts width color)) px (points-open c (length px) pts ok z .canvas .valid)));
       polygon = λ c pts paint px scratch r px′ scratch′ d. kept-left _ px _ (d .called .called .paints)
           (λ z. drawn-kept c (polyReach pts) (polyInk pts paint) px (poly-valid c (length px) pts paint (length scratch) z));
+      ground = λ c v px r px′ d. kept-left _ px _ (d .called .paints) (λ z. drawn-kept c (c .clip) (λ _ _ _. v) px (open-of c (length px) z .valid));
+      brush = λ c b ok rect radius px r px′ d. kept-left _ px _ (d .called .paints)
+          (λ z. drawn-kept c (fillReach rect) (fillInk rect radius (paintOf b)) px (brush-valid c (length px) b ok z));
+      brushPolygon = λ c pts b px scratch r px′ scratch′ d. kept-left _ px _ (d .called .called .paints)
+          (λ z. drawn-kept c (polyReach pts) (polyInk pts (paintOf b)) px (points-brush-valid c (length px) pts b (length scratch) z));
       painting = λ sheet pitch px scratch a px′ scratch′ d. painted-kept sheet pitch px scratch a px′ scratch′ d;
       patching = λ old new pitch px scratch a px′ scratch′ d. patched-kept new pitch px scratch a px′ scratch′ old d;
     }

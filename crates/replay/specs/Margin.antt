@@ -8,6 +8,7 @@ use lib.IntN.{ℤ, pos}
 use lib.Ieee.{Float}
 use lib.ListN.{length, getD}
 use Rattle.geom.specs.declared.IRect.{IRect}
+use Rattle.geom.specs.declared.Rect.{Rect}
 use Rattle.geom.specs.Int.{up}
 use Rattle.color.specs.declared.Color.{Color}
 use Rattle.draw.specs.Draw.{drawn}
@@ -25,6 +26,8 @@ use Rattle.sheet.specs.Check.{widthOf}
 use Rattle.redraw.specs.declared.Reply.{Reply}
 use Rattle.redraw.specs.Calls.{Painted, Patched}
 use Rattle.items.specs.Format.{format, zeroWord}
+use Rattle.maldjupp.specs.declared.brush.Brush.{Brush}
+use Rattle.maldjupp.specs.Brushes.{paintOf, Brushed, pointsBrushNumber}
 
 -- in rows of `pitch` words, px′ is as long as px, and a word of a row past the first w is as it was
 pub record Kept (pitch w : ℕ) (px px′ : List ℕ) : Type 0 where
@@ -53,6 +56,17 @@ pub record Margin : Type 0 where
       → Kept (c .pitch) (up (c .w)) px px′
   pub polygon : (c : Canvas) (pts : List Float) (paint : Paint) (px : List ℕ) (scratch : List Float) (r : Counted) (px′ : List ℕ) (scratch′ : List Float)
       → Filled (polyNumber c (length px) pts paint (length scratch)) c px pts paint scratch r px′ scratch′
+      → Kept (c .pitch) (up (c .w)) px px′
+  -- `fill_ground`, which painting and patching share
+  pub ground : (c : Canvas) (v : ℕ) (px : List ℕ) (r : Counted) (px′ : List ℕ)
+      → ShapeCalled (pxNumber c (length px)) c px (drawn (c .pitch) (c .clip) (c .clip) (λ _ _ _. v) px) r px′
+      → Kept (c .pitch) (up (c .w)) px px′
+  -- the calls of C and Rust whose paint comes as a brush: `maldjupp_fill_rrect`, `maldjupp_fill_rect`, `maldjupp_fill_circle`; `maldjupp_fill_poly`
+  pub brush : (c : Canvas) (b : Brush) (ok : Bool) (rect : Rect) (radius : Float) (px : List ℕ) (r : Counted) (px′ : List ℕ)
+      → Brushed c b ok rect radius px r px′
+      → Kept (c .pitch) (up (c .w)) px px′
+  pub brushPolygon : (c : Canvas) (pts : List Float) (b : Brush) (px : List ℕ) (scratch : List Float) (r : Counted) (px′ : List ℕ) (scratch′ : List Float)
+      → Filled (pointsBrushNumber c (length px) pts b (length scratch)) c px pts (paintOf b) scratch r px′ scratch′
       → Kept (c .pitch) (up (c .w)) px px′
   -- painting and patching, of the width in the header of the sheet painted, or of the new one
   pub painting : (sheet : List ℕ) (pitch : ℕ) (px : List ℕ) (scratch : List Float) (a : Reply) (px′ : List ℕ) (scratch′ : List Float)

@@ -147,19 +147,18 @@ impl Run {
                 self.ceilings.add(&sheets, &left.answer, &ceiling);
             }
         }
-        if way >= APART {
+        // A list keeps its lent px: a call on px of another length, which may be accepted with a pitch that fits it, is none of the list's.
+        if way >= APART || px.len() != ticket.px.len() {
             return;
         }
-        if pitch != ticket.frame.pitch && px.len() == ticket.px.len() {
+        if pitch != ticket.frame.pitch {
             self.count_pitch(name, after.answer.number);
         }
         if let (Some(sheet), Some(counted)) = (&expected.sheet, counted) {
             ticket.kept = Made::of(sheet);
             ticket.frame.lay(&counted.px, &mut ticket.whole);
         }
-        if left.px.len() == ticket.px.len() {
-            ticket.px = left.px;
-        }
+        ticket.px = left.px;
         if ticket.px != ticket.whole {
             let past = !ticket.frame.same_past(&ticket.px, &ticket.whole);
             let what = if past { "the words past the canvas before the list" } else { "the fresh painting" };
