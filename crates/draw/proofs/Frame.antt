@@ -1,4 +1,5 @@
 -- A canvas within a wider frame.
+--     fifteen-first         the order of 15 and 8
 --     pitch-of, in-pitch    a pitch that is not refused
 --     frame-of, in-frame    .. and px in its rows
 --     row-below             every word is in one of the rows
@@ -23,6 +24,11 @@ use Rattle.draw.specs.Frame.{pitchOk, pitchNumber, frameNumber, framed}
 use Rattle.draw.specs.Areas.{within, inArea, area, drawnIn}
 use Rattle.draw.proofs.Onto.{length-onto, getD-onto, onto-is}
 use Rattle.draw.proofs.Rows.{within-in, within-above, drawn-at, length-drawn}
+
+-- 15 comes before 8: it is given whatever the length of px is
+pub fifteen-first : (w h pitch n : ℕ) → pitchNumber w pitch ≡ 15 → frameNumber w h pitch n ≡ 15
+unfolding frameNumber
+fifteen-first w h pitch n e = rw e
 
 pub record Pitch (w pitch : ℕ) : Type 0 where
   pub room : w ≤ pitch

@@ -1,6 +1,6 @@
 -- Sides, pitches, counts of words and the index of a pixel. Assumes nothing.
 use mathlib.Core.Path.{_≡_}
-use mathlib.Core.Bool.{Bool, true, cond, _&&_}
+use mathlib.Core.Bool.{Bool, true, false, cond, _&&_}
 use Prim.Native.Nat.{ℕ, _+_, _*_, _-_, _<_, _≤_, max}
 use native.Mathlib.Nat.{mul-le-mul, mul-comm}
 use native.Mathlib.Omega.{arith}
@@ -53,6 +53,11 @@ open-small {c} o =
     rw (o .frame .long) (mul-le-mul (o .frame .rows .most) (side-of (c .h) (v .side-h) .high))
 
 -- ---- sizes that are not refused
+
+-- 2 comes before 15 and 8
+pub two-first : (least : ℕ) (w h : ℤ) (pitch n : ℕ) → (sideOk w && sideOk h) ≡ false → sizeNumber least w h pitch n ≡ 2
+unfolding sizeNumber
+two-first least w h pitch n e = rw e
 
 pub record Sized (w h : ℤ) (least pitch n : ℕ) : Type 0 where
   pub side-w : sideOk w ≡ true
