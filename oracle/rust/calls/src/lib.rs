@@ -1,4 +1,4 @@
-//! The sheet calls, measuring and the call of the clip orders of the crate `maldjupp`, on lent memory, and `clear` for its speed. A slice
+//! The sheet calls, measuring, the call of the clip orders and the canvas calls on pixels of the crate `maldjupp`, on lent memory. A slice
 //! passes as a pointer and a length.
 pub mod ceilings;
 pub mod rooms;
@@ -34,6 +34,13 @@ pub mod raw {
         pub state: State,
     }
 
+    /// What `get` returns.
+    #[repr(C)]
+    pub struct Pixel {
+        pub number: u32,
+        pub value: u32,
+    }
+
     #[repr(C)]
     #[derive(Clone, Copy)]
     pub struct Ink {
@@ -55,7 +62,10 @@ pub mod raw {
         ) -> Answer;
         pub fn maldjupp_measure(sheet: *const u8, n: usize) -> Room;
         pub fn maldjupp_clip_order(number: usize, buf: *mut u8, room: usize) -> Written;
+        pub fn maldjupp_new(w: i32, h: i32, pitch: usize, px: *mut u32, m: usize) -> Done;
+        pub fn maldjupp_resize(canvas: State, w: i32, h: i32, px: *mut u32, m: usize) -> Done;
         pub fn maldjupp_clear(canvas: State, px: *mut u32, m: usize, ink: Ink) -> Done;
+        pub fn maldjupp_get(canvas: State, px: *const u32, m: usize, x: i32, y: i32) -> Pixel;
     }
 }
 
