@@ -2,19 +2,23 @@
 -- Assumes nothing.
 --     stands-first, clips-first   before the first item, with a first clip inside the canvas
 --     whole                       the whole canvas is such a clip
+--     stands-start, clips-start   .. and so, painted from nothing
 --     stands-next, clips-next     after one item more
 use Prim.Native.Nat.{ℕ, _+_, _<_}
 use mathlib.Core.Path.{_≡_, refl, sym, ap, _∙_}
 use mathlib.Core.Bool.{true, or-true}
 use mathlib.Core.List.{List}
 use native.Mathlib.Omega.{arith}
-use borrow.Author.Tests.{le-ltb}
+use borrow.Author.Tests.{le-ltb, leb-true}
+use lib.Dec.{leb}
 use lib.IntN.{pos}
 use lib.ListN.{getD-replicate}
 use Rattle.geom.specs.Box.{empty, noBox}
 use Rattle.geom.specs.declared.IRect.{IRect}
+use Rattle.geom.proofs.Bools.{and-right}
 use Rattle.geom.proofs.Int.{le-leZ}
 use Rattle.draw.specs.Frame.{pitchNumber}
+use Rattle.draw.proofs.Frame.{in-pitch}
 use Rattle.gfx.specs.State as state
 use Rattle.gfx.specs.State.{clipOk, inCanvas, rangeIn, placeOk, fourZeros, bothZero}
 use Rattle.gfx.specs.declared.Canvas.{Canvas}
@@ -30,7 +34,7 @@ use Rattle.items.specs.Format.{itemIn, sheetOf}
 use Rattle.items.proofs.Sound.{itemOk, savedAfter, item-ok, saved-after}
 use Rattle.redraw.specs.Drawing.{only, after}
 use Rattle.redraw.specs.Sheet.{canvas}
-use Rattle.clips.specs.States.{stateIn, stateAfter}
+use Rattle.clips.specs.States.{stateIn, startOf, stateAfter}
 use Rattle.clips.proofs.Clips.{savedOf, clipsOf}
 use Rattle.clips.proofs.After.{After, after-item}
 
@@ -86,6 +90,18 @@ module _ (s : List ℕ) where
   pub whole : clipOk (pos (widthOf s)) (pos (heightOf s)) (canvas (sheetOf s)) ≡ true
   unfolding clipOk inCanvas rangeIn canvas
   whole = rw (le-leZ (pos (widthOf s)) (pos (widthOf s)) (omega arith), le-leZ (pos (heightOf s)) (pos (heightOf s)) (omega arith)) (or-true (empty (canvas (sheetOf s))))
+
+  -- the width is a pitch that is in its range
+  own-rows : sheetCheck s ≡ verdict 0 0 → pitchNumber (widthOf s) (widthOf s) ≡ 0
+  own-rows e =
+      let w = leb-true (widthOf s) 2048 (and-right (leb 1 (widthOf s)) (leb (widthOf s) 2048) (accepted s e .width)) in
+      in-pitch (record { room = omega arith; most = omega (arith, w) })
+
+  pub clips-start : clipsOf (startOf s) ≡ only (canvas (sheetOf s))
+  clips-start = clips-first s (widthOf s) (canvas (sheetOf s))
+
+  pub stands-start : sheetCheck s ≡ verdict 0 0 → Standing s (widthOf s) 0 (startOf s)
+  stands-start e = stands-first s (widthOf s) (canvas (sheetOf s)) e (own-rows e) whole
 
 module _ (s : List ℕ) (pitch : ℕ) where
   module _ (e : sheetCheck s ≡ verdict 0 0) (k : ℕ) (h : k < countOf s) (c : Canvas) (st : Standing s pitch k c) where

@@ -3,7 +3,7 @@
 use Prim.Native.Nat.{ℕ}
 use mathlib.Core.Bool.{Bool, true, false}
 use mathlib.Core.List.{List}
-use lib.IntN.{ℤ}
+use lib.IntN.{ℤ, pos}
 use lib.ListN.{replicate}
 use Rattle.geom.specs.Box.{noBox}
 use Rattle.geom.specs.Plane.{outerOf}
@@ -11,14 +11,21 @@ use Rattle.geom.specs.declared.IRect.{IRect}
 use Rattle.gfx.specs.State.{pushed, popped}
 use Rattle.gfx.specs.Calls.{answer, stateNumber, pushNumber}
 use Rattle.gfx.specs.declared.Canvas.{Canvas}
+use Rattle.sheet.specs.Check.{widthOf, heightOf}
 use Rattle.redraw.specs.Drawing as drawing
 use Rattle.redraw.specs.Drawing.{push, pop, shape}
+use Rattle.redraw.specs.Sheet.{canvas}
+use Rattle.items.specs.Format.{sheetOf}
 use Rattle.items.specs.declared.Item.{Item}
 use Rattle.items.specs.declared.Item.the-variants.{Push, Pop, Fill, Stroke, Line, Poly, Shadow, Chain, Unknown}
 
 -- a canvas with a first clip and nothing saved
 unfoldable pub stateIn : ℤ → ℤ → ℕ → IRect → Canvas
 stateIn w h pitch first = record { w = w; h = h; pitch = pitch; clip = first; saved = replicate 16 noBox; depth = 0 }
+
+-- that of a sheet painted from nothing, in rows as long as its canvas
+abbrev pub startOf : List ℕ → Canvas
+startOf s = stateIn (pos (widthOf s)) (pos (heightOf s)) (widthOf s) (canvas (sheetOf s))
 
 -- the state that `push_clip` or `pop_clip` returns; a shape leaves it
 unfoldable pub stateAfter : Item → Canvas → Canvas

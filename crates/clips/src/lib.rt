@@ -13,7 +13,7 @@ ghost use Rattle.sheet.specs.Check.{widthOf, heightOf};
 ghost use Rattle.items.specs.Items.{itemOf};
 ghost use Rattle.items.specs.Format.{itemIn, sheetOf};
 ghost use Rattle.redraw.specs.Sheet.{canvas};
-ghost use Rattle.clips.specs.States.{stateIn, stateAfter, isShape};
+ghost use Rattle.clips.specs.States.{stateIn, startOf, stateAfter, isShape};
 
 // A canvas with a first clip and nothing saved.
 pub fn state_in(w: i32, h: i32, pitch: usize, first: IRect) -> Canvas
@@ -51,6 +51,14 @@ pub fn first_state(s: &[u8], pitch: usize, first: IRect) -> Canvas
     ensures { λ r. ⌜ r ≡ stateIn (pos (widthOf (now (s .entry)))) (pos (heightOf (now (s .entry)))) pitch first ⌝ }
 {
     state_in(side(s, 0), side(s, 2), pitch, first)
+}
+
+// The state in which a sheet is painted from nothing, in rows as long as its canvas.
+pub fn start_state(s: &[u8]) -> Canvas
+    ensures { λ r. ⌜ r ≡ startOf (now (s .entry)) ⌝ }
+{
+    let first = canvas_of(s);
+    first_state(s, u16_at(s, 0), first)
 }
 
 // Whether the item that some bytes are is a shape: neither a push nor a pop.

@@ -1,4 +1,5 @@
--- Patches of a set (change request 2026-01) and with chains (2026-04), worked by the definitions: each side computes. Assumes nothing.
+-- Patches of a set (change request 2026-01), with chains (2026-04) and under clips (2026-09), worked by the definitions: each side computes. Assumes
+-- nothing.
 use Prim.Native.Nat.{ℕ, zero, suc, _+_, _*_, _/_, _%_}
 use mathlib.Core.Path.{_≡_, refl}
 use mathlib.Core.List.{List, [], _∷_, _++_}
@@ -19,11 +20,12 @@ use Rattle.sheet.specs.Kinds.{layoutAt, lengthOk, pointsOk, paintBytesOk, bytes
 use Rattle.sheet.specs.Check as checks
 use Rattle.sheet.specs.Check.{headerOk, pairsFrom, pairsOk, headNumber, numberAt, depthAt, sheetCheck}
 use Rattle.items.specs.Items.{readPaint, readItem, coordsFrom}
-use Rattle.items.specs.Format.{reachOf, needOf, drawnAs, itemsFrom, itemNeed, needs, sameBytes, sameBox, sameItem, reading, format}
+use Rattle.items.specs.Format.{reachOf, needOf, drawnAs, itemsFrom, itemNeed, needs, sameBytes, sameBox, sameItem, sheetOf, reading, format}
 use Rattle.redraw.specs.declared.Answer.{Answer}
-use Rattle.compare.specs.Compare.{found, changeNumber}
+use Rattle.compare.specs.Compare.{changeNumber}
 use Rattle.draw.specs.Frame.{pitchOk, pitchNumber, frameNumber}
-use Rattle.redraw.specs.Sheet.{Sheet, shapes, refuses, canvas, sameHeader, few, tooMany, withPair, bothShapes, change, reaches, lent, lentNumber, drawsUnless, patchBy, patchOf, patching, refusal, answer}
+use Rattle.redraw.specs.Drawing.{after, popped}
+use Rattle.redraw.specs.Sheet.{Sheet, Pair, shapes, refuses, canvas, sameHeader, few, tooMany, withPair, bothShapes, change, changeIn, reaches, lent, lentNumber, drawsUnless, patchBy, patchOf, patching, refusal, answer}
 
 -- a number as two bytes; -9, 0, 1, 2 and 9 as floats
 abbrev u16 : ℕ → List ℕ
@@ -104,25 +106,29 @@ pub edges :
     × (answeredIn (fill none 0 ∷ []) (fill two 0 ∷ []) 4097 4097 ≡ refusal 15 0)
     × (answeredIn (fill none 0 ∷ []) (fill two 0 ∷ []) 3 4 ≡ refusal 15 0)
     × (answeredIn (fill none 0 ∷ push none ∷ []) (fill two 0 ∷ push one ∷ []) 3 4 ≡ refusal 10 0)
-unfolding copies pairsOf joined patching patchOf patchBy lent lentNumber drawsUnless frameNumber pitchNumber pitchOk reading sheetCheck checks.itemsFrom numberAt depthAt headNumber headerOk pairsOk pairsFrom itemNumber savedOk floatsOk paintFloatsOk bytesOk paintBytesOk pointsOk lengthOk layoutAt allAt floatOk itemsFrom drawnAs readItem readPaint reachOf needOf itemNeed needs sameItem sameBytes sameBox sameHeader change bothShapes withPair few tooMany reaches canvas joinAll join around empty meet maxZ minZ noBox answer refusal fillReach strokeReach noArea outerOf floorOf ceilOf ofBits round add sub mul ofInt lt le eq ne neg toSigned toUnsigned
+unfolding copies pairsOf joined patching patchOf patchBy lent lentNumber drawsUnless frameNumber pitchNumber pitchOk reading sheetCheck checks.itemsFrom numberAt depthAt headNumber headerOk pairsOk pairsFrom itemNumber savedOk floatsOk paintFloatsOk bytesOk paintBytesOk pointsOk lengthOk layoutAt allAt floatOk itemsFrom drawnAs readItem readPaint reachOf needOf itemNeed needs sameItem sameBytes sameBox sameHeader change after bothShapes withPair few tooMany reaches canvas joinAll join around empty meet maxZ minZ noBox answer refusal fillReach strokeReach noArea outerOf floorOf ceilOf ofBits round add sub mul ofInt lt le eq ne neg toSigned toUnsigned
 edges = (refl, refl, refl, refl, refl, refl, refl, refl, refl, refl, refl, refl, refl, refl)
 
 -- n lines from (x, 0)
 abbrev many : ℕ → List ℕ → List (List ℕ)
 many n x = copies n (line x)
 
+-- the number of how two sheets differ, which hangs on no clip
+abbrev differing : List (List ℕ) → List (List ℕ) → ℕ
+differing old new = changeNumber (changeIn format noBox (sheetOf (sheet old)) (sheetOf (sheet new)))
+
 -- none of 33 shapes differs, 32, and 33; also with a push after them, or before them
 pub limits :
-    (changeNumber (found (sheet (many 33 none)) (sheet (many 33 none))) ≡ 0)
-    × (changeNumber (found (sheet (many 32 none)) (sheet (many 32 one))) ≡ 0)
-    × (changeNumber (found (sheet (many 33 none)) (sheet (many 33 one))) ≡ 14)
-    × (changeNumber (found (sheet (many 33 none ++ push none ∷ [])) (sheet (many 33 one ++ push one ∷ []))) ≡ 10)
-    × (changeNumber (found (sheet (push none ∷ many 33 none)) (sheet (push one ∷ many 33 one))) ≡ 10)
-unfolding copies pairsOf joined change bothShapes withPair few itemsFrom drawnAs readItem readPaint sameItem sameBytes changeNumber
+    (differing (many 33 none) (many 33 none) ≡ 0)
+    × (differing (many 32 none) (many 32 one) ≡ 0)
+    × (differing (many 33 none) (many 33 one) ≡ 14)
+    × (differing (many 33 none ++ push none ∷ []) (many 33 one ++ push one ∷ []) ≡ 10)
+    × (differing (push none ∷ many 33 none) (push one ∷ many 33 one) ≡ 10)
+unfolding copies pairsOf joined change after bothShapes withPair few itemsFrom drawnAs readItem readPaint sameItem sameBytes changeNumber
 limits = (refl, refl, refl, refl, refl)
 
 -- 33 shapes are refused by 14 whatever pitch, px and scratch are lent: 14 comes before 15, 8 and 9
-pub before-lengths : (l : List (List ℕ × List ℕ)) (s : Sheet (List ℕ)) (pitch px words : ℕ) → length l ≡ 33 → patchBy format (shapes l) s pitch px words ≡ refuses 14 0
+pub before-lengths : (l : List (Pair (List ℕ))) (s : Sheet (List ℕ)) (pitch px words : ℕ) → length l ≡ 33 → patchBy format (shapes l) s pitch px words ≡ refuses 14 0
 unfolding patchBy few tooMany
 before-lengths l s pitch px words e = rw e
 
@@ -151,5 +157,31 @@ pub chains :
     × (answered (start ∷ []) (fill two 0 ∷ []) 4 ≡ accepted (boxOf (pos 2) (pos 0) (pos 3) (pos 1)))
     -- a push for a chain
     × (answered (short ∷ []) (push one ∷ []) 4 ≡ refusal 10 0)
-unfolding copies pairsOf joined patching patchOf patchBy lent lentNumber drawsUnless frameNumber pitchNumber pitchOk reading sheetCheck checks.itemsFrom numberAt depthAt headNumber headerOk pairsOk pairsFrom itemNumber savedOk floatsOk paintFloatsOk bytesOk paintBytesOk pointsOk lengthOk layoutAt allAt floatOk itemsFrom drawnAs readItem readPaint coordsFrom reachOf needOf itemNeed needs sameItem sameBytes sameBox sameHeader change bothShapes withPair few tooMany reaches canvas joinAll join around empty meet maxZ minZ noBox answer refusal linesFrom lineReach absOf fillReach noArea outerOf floorOf ceilOf ofBits round add sub mul ofInt lt le eq ne neg toSigned toUnsigned
+unfolding copies pairsOf joined patching patchOf patchBy lent lentNumber drawsUnless frameNumber pitchNumber pitchOk reading sheetCheck checks.itemsFrom numberAt depthAt headNumber headerOk pairsOk pairsFrom itemNumber savedOk floatsOk paintFloatsOk bytesOk paintBytesOk pointsOk lengthOk layoutAt allAt floatOk itemsFrom drawnAs readItem readPaint coordsFrom reachOf needOf itemNeed needs sameItem sameBytes sameBox sameHeader change after bothShapes withPair few tooMany reaches canvas joinAll join around empty meet maxZ minZ noBox answer refusal linesFrom lineReach absOf fillReach noArea outerOf floorOf ceilOf ofBits round add sub mul ofInt lt le eq ne neg toSigned toUnsigned
 chains = (refl, refl, refl, refl, refl, refl, refl)
+
+-- a fill of the columns from 0 up to w; a push of the columns from x up to x + w; a pop
+abbrev bar : List ℕ → List ℕ
+bar w = 3 ∷ 0 ∷ 0 ∷ 0 ∷ none ++ none ++ w ++ one ++ none ++ none ++ 0 ∷ 0 ∷ 0 ∷ 255 ∷ replicate 20 0
+
+abbrev column : List ℕ → List ℕ → List ℕ
+column x w = 1 ∷ 0 ∷ 0 ∷ 0 ∷ x ++ none ++ w ++ one
+
+abbrev back : List ℕ
+back = 2 ∷ 0 ∷ 0 ∷ 0 ∷ []
+
+pub columns :
+    -- a bar grows from 2 columns to 9, whole; under a push of column 1; under one of columns 1 and 2 in one of 0 and 1; after a pop
+    (answered (bar two ∷ []) (bar nine ∷ []) 4 ≡ accepted (boxOf (pos 0) (pos 0) (pos 4) (pos 1)))
+    × (answered (column one one ∷ bar two ∷ []) (column one one ∷ bar nine ∷ []) 4 ≡ accepted (boxOf (pos 1) (pos 0) (pos 2) (pos 1)))
+    × (answered (column none two ∷ column one two ∷ bar two ∷ []) (column none two ∷ column one two ∷ bar nine ∷ []) 4 ≡ accepted (boxOf (pos 1) (pos 0) (pos 2) (pos 1)))
+    × (answered (column one one ∷ back ∷ bar two ∷ []) (column one one ∷ back ∷ bar nine ∷ []) 4 ≡ accepted (boxOf (pos 0) (pos 0) (pos 4) (pos 1)))
+    -- the clip is the one at the item: a push after it does not cut it
+    × (answered (bar two ∷ column one one ∷ []) (bar nine ∷ column one one ∷ []) 4 ≡ accepted (boxOf (pos 0) (pos 0) (pos 4) (pos 1)))
+    -- old and new shape, of which the clip hides one, and both
+    × (answered (column one one ∷ fill one 0 ∷ []) (column one one ∷ fill two 0 ∷ []) 4 ≡ accepted (boxOf (pos 1) (pos 0) (pos 2) (pos 1)))
+    × (answered (column one one ∷ fill none 0 ∷ []) (column one one ∷ fill two 0 ∷ []) 4 ≡ accepted noBox)
+    -- two shapes, under two clips
+    × (answered (fill none 0 ∷ column two one ∷ bar two ∷ []) (fill one 0 ∷ column two one ∷ bar nine ∷ []) 4 ≡ accepted (boxOf (pos 0) (pos 0) (pos 3) (pos 1)))
+unfolding copies pairsOf joined patching patchOf patchBy lent lentNumber drawsUnless frameNumber pitchNumber pitchOk reading sheetCheck checks.itemsFrom numberAt depthAt headNumber headerOk pairsOk pairsFrom itemNumber savedOk floatsOk paintFloatsOk bytesOk paintBytesOk pointsOk lengthOk layoutAt allAt floatOk itemsFrom drawnAs readItem readPaint reachOf needOf itemNeed needs sameItem sameBytes sameBox sameHeader change after popped bothShapes withPair few tooMany reaches canvas joinAll join around empty meet maxZ minZ noBox answer refusal fillReach noArea outerOf floorOf ceilOf ofBits round add sub mul ofInt lt le eq ne neg toSigned toUnsigned
+columns = (refl, refl, refl, refl, refl, refl, refl, refl)

@@ -1,8 +1,11 @@
 // How two sheets differ: what a patch needs to know of them. Every function here takes any bytes at all.
 use clips::canvas_of;
 use clips::is_shape;
+use clips::start_state;
+use clips::state_after;
 use geom::IRect;
 use geom::join;
+use gfx::Canvas;
 use items::ground;
 use items::part_at;
 use items::reaches::reach;
@@ -14,8 +17,9 @@ ghost use Rattle.geom.specs.Box as Box;
 ghost use Rattle.geom.specs.Box.{meet, noBox};
 ghost use Rattle.sheet.specs.Check.{bytesAt};
 ghost use Rattle.redraw.specs.Sheet.{canvas, sameHeader};
+ghost use Rattle.items.specs.Items.{itemOf};
 ghost use Rattle.items.specs.Format.{sameBytes, itemIn, sheetOf};
-ghost use Rattle.clips.specs.States.{isShape};
+ghost use Rattle.clips.specs.States.{startOf, stateAfter, isShape};
 ghost use Rattle.compare.specs.Compare.{sameAt, changeFrom, found, reachAt, told, settled, changedBy};
 
 // What a patch is refused with, 10, 14 or 0, and the box that it redraws.
@@ -79,13 +83,30 @@ fn reach_at(s: &[u8], k: u16) -> IRect
     reach(&s[from..to])
 }
 
-// The smallest box around a box and what the reaches of the items k have in a canvas.
-fn area_with(area: IRect, canvas: IRect, old: &[u8], new: &[u8], k: u16) -> IRect
-    ensures { λ r. ⌜ r ≡ Box.join (Box.join area (meet canvas (reachAt (now (old .entry)) k))) (meet canvas (reachAt (now (new .entry)) k)) ⌝ }
+// What the reach of the item k, cut by the clip in force at it, has in a canvas.
+fn cut_at(canvas: IRect, clip: IRect, s: &[u8], k: u16) -> IRect
+    ensures { λ r. ⌜ r ≡ meet canvas (meet clip (reachAt (now (s .entry)) k)) ⌝ }
 {
-    let a = canvas.intersect(reach_at(old, k));
-    let b = canvas.intersect(reach_at(new, k));
+    canvas.intersect(clip.intersect(reach_at(s, k)))
+}
+
+// The smallest box around a box and what the reaches of the items k, cut by the clip in force at them, have in a canvas.
+fn area_with(area: IRect, canvas: IRect, clip: IRect, old: &[u8], new: &[u8], k: u16) -> IRect
+    ensures { λ r. ⌜ r ≡ Box.join (Box.join area (meet canvas (meet clip (reachAt (now (old .entry)) k)))) (meet canvas (meet clip (reachAt (now (new .entry)) k))) ⌝ }
+{
+    let a = cut_at(canvas, clip, old, k);
+    let b = cut_at(canvas, clip, new, k);
     join(join(area, a), b)
+}
+
+// The state of the canvas after the item k.
+fn state_at(s: &[u8], k: u16, state: Canvas) -> Canvas
+    ensures { λ r. ⌜ r ≡ stateAfter (itemOf (bytesAt (now (s .entry)) k)) state ⌝ }
+{
+    let p = part_at(s, k);
+    let from = p.from;
+    let to = p.to;
+    state_after(&s[from..to], state)
 }
 
 fn refusal(number: u32) -> Difference
@@ -97,7 +118,8 @@ fn refusal(number: u32) -> Difference
     }
 }
 
-// What so many pairs of shapes that differ tell, by the box around what their reaches have in the canvas; an empty one is four zeros.
+// What so many pairs of shapes that differ tell, by the box around what their reaches, under their clips, have in the canvas; an empty one is four
+// zeros.
 fn settled(count: usize, area: IRect) -> Difference
     ensures { λ r. ⌜ r ≡ settled count (Box.join area noBox) ⌝ }
 {
@@ -110,22 +132,29 @@ fn settled(count: usize, area: IRect) -> Difference
     }
 }
 
-// What two sheets of n items each tell. A push or a pop that differs is refused by 10, wherever it stands; so the loop goes on past 32 shapes.
+// What two sheets of n items each tell. A push or a pop that differs is refused by 10, wherever it stands; so the loop goes on past 32 shapes, and
+// the clip is that of both sheets all along.
 fn changed_in(old: &[u8], new: &[u8], n: usize) -> Difference
     requires { ⌜ n < 65536 ⌝ }
-    ensures { λ r. ⌜ r ≡ changedBy (canvas (sheetOf (now (new .entry)))) (changeFrom (now (old .entry)) (now (new .entry)) n 0) ⌝ }
+    ensures { λ r. ⌜ r ≡ changedBy (canvas (sheetOf (now (new .entry)))) (changeFrom (now (old .entry)) (now (new .entry)) n 0 (startOf (now (new .entry)))) ⌝ }
 {
     let canvas = canvas_of(new);
+    let first = start_state(new);
+    let mut state = first;
     let mut area = IRect::new(0, 0, 0, 0);
     let mut count = 0;
     for k in 0..n {
         if same_at(old, new, k as u16) {
+            if shape_at(new, k as u16) {
+                continue;
+            }
+            state = state_at(new, k as u16, state);
             continue;
         }
         if !both_shapes(old, new, k as u16) {
             return refusal(10);
         }
-        area = area_with(area, canvas, old, new, k as u16);
+        area = area_with(area, canvas, state.clip, old, new, k as u16);
         count += 1;
     }
     settled(count, area)

@@ -5,34 +5,27 @@ use mathlib.Core.Bool.{Bool, true, false, cond, true≢false}
 use mathlib.Core.List.{List}
 use native.Mathlib.Nat.{le-of-mul-le-mul-right, mul-comm, zero-add}
 use native.Mathlib.Omega.{arith}
-use lib.IntN.{pos}
 use Rattle.geom.specs.Int.{up}
 use Rattle.geom.specs.declared.IRect.{IRect}
 use Rattle.draw.specs.Draw as Draw
 use Rattle.draw.specs.Areas.{inArea, clipTo, AreaFits}
 use Rattle.draw.proofs.Clips.{in-clip}
-use Rattle.draw.specs.Frame.{pitchNumber}
-use Rattle.draw.proofs.Frame.{Pitch, pitch-of, in-pitch}
-use Rattle.geom.proofs.Bools.{and-right}
-use borrow.Author.Tests.{leb-true}
-use lib.Dec.{leb}
+use Rattle.draw.proofs.Frame.{Pitch, pitch-of}
 use Rattle.gfx.specs.declared.Canvas.{Canvas}
 use Rattle.gfx.proofs.Fits.{canvas-fits}
 use Rattle.gfx.proofs.Valid.{side-of, valid-of}
 use Rattle.sheet.specs.Check.{widthOf, heightOf, countOf, bytesAt, verdict, sheetCheck}
-use Rattle.sheet.proofs.Accepted.{accepted}
 use Rattle.items.specs.Items.{itemOf}
 use Rattle.items.specs.Format.{reachOf, needOf, kind, format, itemIn, itemsFrom, itemNeed, needs, sheetOf}
 use Rattle.redraw.specs.Drawing as drawing
 use Rattle.redraw.specs.Drawing.{push, pop, shape, Clips, steps}
-use Rattle.redraw.specs.Sheet.{canvas}
 use Rattle.redraw.specs.Measure.{deepest, met, metAll, room, roomOf, measuring}
 use Rattle.redraw.proofs.Sums.{sum-same, count-area}
 use Rattle.redraw.proofs.Measured.{deepest-least, metOf, met-turn}
-use Rattle.clips.specs.States.{stateIn, stateAfter, isShape}
+use Rattle.clips.specs.States.{stateIn, startOf, stateAfter, isShape}
 use Rattle.clips.proofs.Clips.{saved-length, clipsOf}
 use Rattle.clips.proofs.Shapes.{shape-own, shape-leaves}
-use Rattle.clips.proofs.Standing.{Standing, whole, stands-first, clips-first, stands-next, clips-next}
+use Rattle.clips.proofs.Standing.{Standing, stands-start, clips-start, stands-next, clips-next}
 use Rattle.items.proofs.Readings.{reads-refused, reads-accepted}
 use Rattle.measure.specs.Walked.{Read, Small, cellsOf, deepestOf, pixelsOf, Walked}
 
@@ -105,23 +98,14 @@ module _ (s : List ℕ) where
     pub cells : pixels + metAll kind (widthOf s) (heightOf s) (steps (itemsFrom s (n - k) k) (clipsOf c)) ≡ pixelsOf s
     pub low : pixels ≤ k * 4194304
 
-  abbrev first : Canvas
-  first = stateIn (pos (widthOf s)) (pos (heightOf s)) (widthOf s) (canvas (sheetOf s))
-
-  -- the width is a pitch that is in its range
-  own-rows : Read s → pitchNumber (widthOf s) (widthOf s) ≡ 0
-  own-rows e =
-      let w = leb-true (widthOf s) 2048 (and-right (leb 1 (widthOf s)) (leb (widthOf s) 2048) (accepted s e .width)) in
-      in-pitch (record { room = omega arith; most = omega (arith, w) })
-
-  pub walking-first : Read s → (n : ℕ) → n ≡ countOf s → Walking n first 0 0 0 0
+  pub walking-first : Read s → (n : ℕ) → n ≡ countOf s → Walking n (startOf s) 0 0 0 0
   unfolding stateIn
   walking-first e n q =
       let z : n - 0 ≡ n = omega arith in
-      let clips = clips-first s (widthOf s) (canvas (sheetOf s)) in
+      let clips = clips-start s in
       record {
         within = omega arith;
-        stands = stands-first s (widthOf s) (canvas (sheetOf s)) e (own-rows e) (whole s);
+        stands = stands-start s e;
         need = rw (z, q) (omega arith);
         deep = rw (z, q, clips) (omega arith);
         seen = omega arith;

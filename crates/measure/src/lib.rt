@@ -1,7 +1,6 @@
 // What a sheet takes, told before it is painted: scratch words, saved clips, pixels. It is lent neither pixels nor scratch.
-use clips::canvas_of;
-use clips::first_state;
 use clips::is_shape;
+use clips::start_state;
 use clips::state_after;
 use draw::Area;
 use draw::clipped;
@@ -66,8 +65,7 @@ fn walk(s: &[u8]) -> Tally
     ensures { λ r. ⌜ Walked (now (s .entry)) (r .words) (r .most) (r .pixels) ⌝ }
 {
     let n = u16_at(s, 8);
-    let whole = canvas_of(s);
-    let mut canvas = first_state(s, u16_at(s, 0), whole);
+    let mut canvas = start_state(s);
     let mut words = 0;
     let mut most = 0;
     let mut pixels: u64 = 0;

@@ -19,6 +19,7 @@ use Rattle.redraw.specs.Sheet as redraw
 use Rattle.redraw.specs.Sheet.{Reading, read, Change, other, shapes, reaches, few, canvas, sameHeader, refuses, draws, lentNumber, lent, patchOf, patching}
 use Rattle.compare.specs.Compare.{found, changeNumber, changeBox}
 use Rattle.compare.proofs.Changes.{patch-by}
+use Rattle.compare.proofs.Walks.{found-is}
 use Rattle.items.proofs.Readings.{reads-accepted}
 use Rattle.redraw.proofs.Rules.{lent-refused, lent-draws}
 
@@ -41,7 +42,7 @@ module _ (old new : List ℕ) (p : sheetCheck old ≡ verdict 0 0) (q : sheetChe
   module _ (h : sameHeader (sheetOf old) (sheetOf new) ≡ true) where
     by-change : patching format old new pitch n words ≡ cond (eqb (changeNumber (found old new)) 0) (lent format (sheetOf new) pitch n words box) (refuses (changeNumber (found old new)) 0)
     unfolding patchOf
-    by-change = both ∙ rw h (patch-by (found old new) (sheetOf new) pitch n words)
+    by-change = both ∙ rw (h, ← found-is old new q) (patch-by (found old new) (sheetOf new) pitch n words)
 
     pub not-allowed : (changeNumber (found old new) ≡ 0 → ⊥) → patching format old new pitch n words ≡ refuses (changeNumber (found old new)) 0
     not-allowed k = by-change ∙ rw (ne-eqb _ 0 k)

@@ -1,4 +1,5 @@
--- The ceiling on patch work, over any format: a step alters no more pixels than lie in the box, and none where its reach does not meet the box.
+-- The ceiling on patch work, over any format: a step alters no more pixels than lie in the box, and none where its reach, cut by the clip of a
+-- painting from nothing, does not meet the box.
 -- Assumes nothing.
 use mathlib.Core.Bool.{Bool, true, false, cond, _&&_, _||_}
 use mathlib.Core.List.{List, [], _∷_}
@@ -13,9 +14,9 @@ use lib.ListN.{length}
 use borrow.Author.Tests.{eq-eqb}
 use Rattle.geom.specs.declared.IRect.{IRect}
 use Rattle.geom.specs.Int.{up}
-use Rattle.geom.specs.Box.{noBox, inside, meet, empty, hull}
+use Rattle.geom.specs.Box.{noBox, inside, meet, empty, hull, Holds}
 use Rattle.geom.proofs.Int.{orderZ}
-use Rattle.geom.proofs.Bools.{split, and-left, and-right}
+use Rattle.geom.proofs.Bools.{split}
 use Rattle.geom.proofs.Boxes.{in-meet, in-empty, meet-left, edges, within-nat, hull-in-frame, hull-smallest}
 use Rattle.draw.specs.Draw.{eachAt, onto, meets, drawn, differ}
 use Rattle.draw.specs.Parts.{Part, altersAll}
@@ -31,6 +32,8 @@ use Rattle.redraw.specs.Sheet.{Format, Sheet, Outcome, refuses, draws, c
 use Rattle.redraw.specs.Calls.{Patched}
 use Rattle.redraw.specs.Ceiling.{boxArea, partsMeeting, shapesMeeting, readMeeting, PatchCeiling}
 use Rattle.redraw.proofs.Sums.{sum-same, sum-none, sum-first, count-area}
+use Rattle.redraw.proofs.Drawn as Drawn
+use Rattle.redraw.proofs.Drawn.{Agree, agree-after}
 use Rattle.redraw.proofs.Items.{none, Out, out-after, length-shape, length-ground}
 use Rattle.redraw.proofs.Lists.{patch-accepted}
 
@@ -60,57 +63,76 @@ count-none n = sum-none _ n (λ i h. refl)
 -- ---- one part, the parts of a shape, the items: a box that has `pixels` of n words, in rows of `pitch`
 
 module _ (pitch n pixels : ℕ) (box : IRect) (counted : countTo (λ i. inside box (pos (i % pitch)) (pos (i / pitch))) n ≡ pixels) where
-  -- a clip that is cut to the box: it has no pixel outside
-  abbrev Cut : IRect → Type 0
-  Cut c = (x y : ℕ) → inside box (pos x) (pos y) ≡ false → inside c (pos x) (pos y) ≡ false
+  -- a clip c that is cut to the box, and the clip d in its place when the sheet is painted from nothing: c has the pixels of d in the box
+  abbrev Cut : IRect → IRect → Type 0
+  Cut c d = (x y : ℕ) → inside c (pos x) (pos y) ≡ inside box (pos x) (pos y) && inside d (pos x) (pos y)
 
-  -- what it lets through of a reach lies in the box and in the reach
-  in-cut : (c reach : IRect) → Cut c → (x y : ℕ) → meets c reach x y ≡ true → inside (meet box reach) (pos x) (pos y) ≡ true
+  -- what c lets through of a reach lies in the box and in the reach cut by d, and no other pixel does
+  in-cut : (c d reach : IRect) → Cut c d → (x y : ℕ) → meets c reach x y ≡ inside (meet box (meet d reach)) (pos x) (pos y)
   unfolding meets
-  in-cut c reach u x y e =
-      in-meet box reach (pos x) (pos y) ∙ rw (and-right (inside c (pos x) (pos y)) (inside reach (pos x) (pos y)) e) (go (inside box (pos x) (pos y)) refl)
+  in-cut c d reach u x y =
+      rw (u x y, in-meet box (meet d reach) (pos x) (pos y), in-meet d reach (pos x) (pos y))
+      (go (inside box (pos x) (pos y)) (inside d (pos x) (pos y)) (inside reach (pos x) (pos y)))
     where
-      go : (t : Bool) → inside box (pos x) (pos y) ≡ t → t && true ≡ true
-      go true q = refl
-      go false q = let i = and-left (inside c (pos x) (pos y)) (inside reach (pos x) (pos y)) e in let o = u x y q in cc
+      go : (p q r : Bool) → (p && q) && r ≡ p && (q && r)
+      go true q r = refl
+      go false q r = refl
 
-  -- a part alters no pixel where its reach does not meet the box, and else no more than lie in it
-  part-most : (a : Part) (c : IRect) (px : List ℕ) → length px ≡ n → Cut c
-      → differ px (drawn pitch c (a .reach) (a .ink) px) ≤ cond (empty (meet box (a .reach))) 0 1 * pixels
+  -- a part alters no pixel where its reach, cut by d, does not meet the box, and else no more than lie in it
+  part-most : (a : Part) (c d : IRect) (px : List ℕ) → length px ≡ n → Cut c d
+      → differ px (drawn pitch c (a .reach) (a .ink) px) ≤ cond (empty (meet box (meet d (a .reach)))) 0 1 * pixels
   unfolding drawn onto
-  part-most a c px l u =
-      split (empty (meet box (a .reach))) (λ t. differ px (drawn pitch c (a .reach) (a .ink) px) ≤ cond t 0 1 * pixels)
-      (λ e. let most = altered (λ k. false) (λ k q. sym (in-empty (meet box (a .reach)) (pos (k % pitch)) (pos (k / pitch)) e) ∙ q) in
+  part-most a c d px l u =
+      split (empty both) (λ t. differ px (drawn pitch c (a .reach) (a .ink) px) ≤ cond t 0 1 * pixels)
+      (λ e. let most = altered (λ k. false) (λ k q. sym (in-empty both (pos (k % pitch)) (pos (k / pitch)) e) ∙ q) in
       omega (arith, most, count-none (length px)))
-      (λ e. let most = altered (λ k. inside box (pos (k % pitch)) (pos (k / pitch))) (λ k q. meet-left box (a .reach) .holds (pos (k % pitch)) (pos (k / pitch)) q) in
+      (λ e. let most = altered (λ k. inside box (pos (k % pitch)) (pos (k / pitch))) (λ k q. meet-left box (meet d (a .reach)) .holds (pos (k % pitch)) (pos (k / pitch)) q) in
       omega (arith, rw l at most, counted))
     where
-      altered : (t : ℕ → Bool) → ((k : ℕ) → inside (meet box (a .reach)) (pos (k % pitch)) (pos (k / pitch)) ≡ true → t k ≡ true)
+      both : IRect
+      both = meet box (meet d (a .reach))
+
+      altered : (t : ℕ → Bool) → ((k : ℕ) → inside both (pos (k % pitch)) (pos (k / pitch)) ≡ true → t k ≡ true)
           → differ px (drawn pitch c (a .reach) (a .ink) px) ≤ countTo t (length px)
       altered t h =
-          onto-most (λ i. meets c (a .reach) (i % pitch) (i / pitch)) (λ i p. a .ink (i % pitch) (i / pitch) p) t px (λ k q. h k (in-cut c (a .reach) u (k % pitch) (k / pitch) q))
+          onto-most (λ i. meets c (a .reach) (i % pitch) (i / pitch)) (λ i p. a .ink (i % pitch) (i / pitch) p) t px
+          (λ k q. h k (sym (in-cut c d (a .reach) u (k % pitch) (k / pitch)) ∙ q))
 
-  parts-most : (l : List Part) (c : IRect) (px : List ℕ) → length px ≡ n → Cut c → altersAll pitch c l px ≤ partsMeeting box l * pixels
+  parts-most : (l : List Part) (c d : IRect) (px : List ℕ) → length px ≡ n → Cut c d → altersAll pitch c l px ≤ partsMeeting box d l * pixels
   unfolding altersAll partsMeeting
-  parts-most [] c px e u = omega arith
-  parts-most (a ∷ l) c px e u =
+  parts-most [] c d px e u = omega arith
+  parts-most (a ∷ l) c d px e u =
       let next = drawn pitch c (a .reach) (a .ink) px in
-      let here = part-most a c px e u in
-      let rest = parts-most l c next (Clips.length-shape pitch c (a .reach) (a .ink) px ∙ e) u in
-      omega (arith, here, rest, add-mul (cond (empty (meet box (a .reach))) 0 1) (partsMeeting box l) pixels)
+      let here = part-most a c d px e u in
+      let rest = parts-most l c d next (Clips.length-shape pitch c (a .reach) (a .ink) px ∙ e) u in
+      omega (arith, here, rest, add-mul (cond (empty (meet box (meet d (a .reach)))) 0 1) (partsMeeting box d l) pixels)
 
   module _ (K : Kind) where
-    items-most : (items : List (Item (K .Shape))) (c : Clips) (px : List ℕ) → length px ≡ n
-        → ((x y : ℕ) → inside box (pos x) (pos y) ≡ false → Out K x y c)
-        → itemsAlter K pitch items c px ≤ shapesMeeting K box items * pixels
+    -- the same of all clips, in force and saved: c has no pixel outside the box, and agrees with d inside it
+    record Under (c d : Clips) : Type 0 where
+      out : (x y : ℕ) → inside box (pos x) (pos y) ≡ false → Out K x y c
+      like : (x y : ℕ) → inside box (pos x) (pos y) ≡ true → Agree K x y c d
+
+    under-after : (i : Item (K .Shape)) (c d : Clips) → Under c d → Under (after i c) (after i d)
+    under-after i c d u = record { out = λ x y o. out-after K x y i c (u .out x y o); like = λ x y o. agree-after K x y i c d (u .like x y o) }
+
+    under-cut : (c d : Clips) → Under c d → Cut (c .clip) (d .clip)
+    under-cut c d u x y = go (inside box (pos x) (pos y)) refl
+      where
+        go : (t : Bool) → inside box (pos x) (pos y) ≡ t → inside (c .clip) (pos x) (pos y) ≡ t && inside (d .clip) (pos x) (pos y)
+        go true q = u .like x y q .clips
+        go false q = u .out x y q .clips
+
+    items-most : (items : List (Item (K .Shape))) (c d : Clips) (px : List ℕ) → length px ≡ n → Under c d
+        → itemsAlter K pitch items c px ≤ shapesMeeting K box items d * pixels
     unfolding itemsAlter itemAlters itemOn shapesMeeting after
-    items-most [] c px e o = omega arith
-    items-most (push s b ∷ r) c px e o = let rest = items-most r _ px e (λ x y q. out-after K x y (push s b) c (o x y q)) in omega (arith, rest)
-    items-most (pop s ∷ r) c px e o = let rest = items-most r _ px e (λ x y q. out-after K x y (pop s) c (o x y q)) in omega (arith, rest)
-    items-most (shape a ∷ r) c px e o =
-        let here = parts-most (K .parts a) (c .clip) px e (λ x y q. o x y q .clips) in
-        let rest = items-most r c (shapeOn K pitch (c .clip) a px) (length-shape K pitch (c .clip) a px ∙ e) o in
-        omega (arith, here, rest, add-mul (partsMeeting box (K .parts a)) (shapesMeeting K box r) pixels)
+    items-most [] c d px e u = omega arith
+    items-most (push s b ∷ r) c d px e u = let rest = items-most r _ _ px e (under-after (push s b) c d u) in omega (arith, rest)
+    items-most (pop s ∷ r) c d px e u = let rest = items-most r _ _ px e (under-after (pop s) c d u) in omega (arith, rest)
+    items-most (shape a ∷ r) c d px e u =
+        let here = parts-most (K .parts a) (c .clip) (d .clip) px e (under-cut c d u) in
+        let rest = items-most r c d (shapeOn K pitch (c .clip) a px) (length-shape K pitch (c .clip) a px ∙ e) u in
+        omega (arith, here, rest, add-mul (partsMeeting box (d .clip) (K .parts a)) (shapesMeeting K box r d) pixels)
 
   ground-most : (ground : ℕ) (px : List ℕ) → length px ≡ n → differ px (groundIn pitch box ground px) ≤ pixels
   unfolding groundIn
@@ -147,11 +169,15 @@ hull-fits s bs = go (empty box) refl
 
 module _ (K : Kind) (pitch : ℕ) (s : Sheet (K .Shape)) (box : IRect) (fits : BoxFits (s .w) (s .h) box) (room : s .w ≤ pitch)
     (px : List ℕ) (long : length px ≡ pitch * s .h) where
-  steps-most : stepsOf K pitch (draws s box) px ≤ shapesMeeting K box (s .items) * boxArea box
+  steps-most : Holds (canvas s) box → stepsOf K pitch (draws s box) px ≤ shapesMeeting K box (s .items) (only (canvas s)) * boxArea box
   unfolding stepsOf
-  steps-most =
-      items-most pitch (pitch * s .h) _ box (count-box pitch (s .w) (s .h) box room fits) K (s .items) (only box) _
-      (length-ground pitch box (s .ground) px ∙ long) (λ x y o. record { clips = o; saves = none })
+  steps-most h =
+      items-most pitch (pitch * s .h) _ box (count-box pitch (s .w) (s .h) box room fits) K (s .items) (only box) (only (canvas s)) _
+      (length-ground pitch box (s .ground) px ∙ long)
+      (record {
+        out = λ x y o. record { clips = o; saves = none };
+        like = λ x y o. record { clips = o ∙ sym (h .holds (pos x) (pos y) o); saves = Drawn.none };
+      })
 
   grounds-most : groundsOf K pitch (draws s box) px ≤ boxArea box
   unfolding groundsOf
@@ -193,7 +219,8 @@ module _ {Word : Type 0} (zeroWord : Word) (F : Format) where
         go (draws t b) e =
             let p = patch-accepted F old new pitch (length px) (length scratch) (ap accepted e) in
             rw (did .answers, did .steps, did .grounds, p .is, p .reads-to) (
-              steps-most (F .kind) pitch (p .to) _ (hull-fits (p .to) _) (p .lends .frame .rows .room) px (p .lends .frame .long),
+              steps-most (F .kind) pitch (p .to) _ (hull-fits (p .to) _) (p .lends .frame .rows .room) px (p .lends .frame .long)
+                  (hull-in-frame (canvas (p .to)) _),
               grounds-most (F .kind) pitch (p .to) _ (hull-fits (p .to) _) (p .lends .frame .rows .room) px (p .lends .frame .long),
             )
 

@@ -1,9 +1,9 @@
 -- The laws of drawing, over any kind of shape.
 --     first-clip   inside two first clips, the items give a pixel the same value under either
---     untouched    lists of items that differ only in shapes agree on a pixel that none of those shapes reaches
+--     untouched    lists of items that differ only in shapes agree on a pixel that none of those shapes reaches under its clip
 --     redrawn      drawing new items in a box on pixels that show the old ones leaves pixels that show the new ones
 -- Assumes nothing.
-use mathlib.Core.Bool.{Bool, true, false, cond, _&&_}
+use mathlib.Core.Bool.{Bool, true, false, cond, _&&_, _||_}
 use mathlib.Core.List.{List, [], _∷_}
 use mathlib.Core.Path.{_≡_, refl, sym, ap, _∙_}
 use Prim.Native.Nat.{ℕ, zero, suc, _+_, _/_, _%_, _<_}
@@ -12,10 +12,10 @@ use native.Mathlib.Nat.{add-zero, add-suc, suc-add, zero-add}
 use lib.IntN.{ℤ, pos}
 use lib.ListN.{length, getD}
 use Rattle.geom.specs.declared.IRect.{IRect}
-use Rattle.geom.specs.Box.{inside, inAny, HoldsEach}
-use Rattle.redraw.specs.Drawing.{Item, push, pop, shape, Clips, only, popped, after, withStep, steps, Kind, meets, inked, pixel, pixelOf, wordIn, paintedIn}
+use Rattle.geom.specs.Box.{inside, meet, inAny, HoldsEach}
+use Rattle.redraw.specs.Drawing.{Item, push, pop, shape, Clips, only, popped, after, Step, withStep, steps, Kind, meets, inked, pixel, pixelOf, wordIn, paintedIn}
 use Rattle.draw.specs.Draw.{eachAt}
-use Rattle.redraw.specs.Sheet.{Change, other, shapes, withPair, bothShapes, change, reaches}
+use Rattle.redraw.specs.Sheet.{Pair, Change, other, shapes, withPair, bothShapes, change, cutReach, reaches}
 use Rattle.geom.proofs.Bools.{or-false, same-test}
 use Rattle.geom.proofs.Boxes.{in-meet, held-any}
 
@@ -41,7 +41,7 @@ module _ (K : Kind) (x y : ℕ) where
   agree-popped c d e none = record { clips = e; saves = none }
   agree-popped c d e (more f a) = record { clips = f; saves = a }
 
-  agree-after : (i : Item (K .Shape)) (c d : Clips) → Agree c d → Agree (after i c) (after i d)
+  pub agree-after : (i : Item (K .Shape)) (c d : Clips) → Agree c d → Agree (after i c) (after i d)
   unfolding after
   agree-after (push s b) c d a = record {
     clips = in-meet (c .clip) b (pos x) (pos y) ∙ ap (λ (t : Bool). t && inside b (pos x) (pos y)) (a .clips) ∙ sym (in-meet (d .clip) b (pos x) (pos y));
@@ -68,75 +68,81 @@ module _ (K : Kind) (x y : ℕ) where
 
 -- ---- a pixel that no differing shape reaches
 
--- two lists of items that are equal but for pairs of shapes
-pub data Edited {Shape : Type 0} : List (Item Shape) → List (Item Shape) → List (Shape × Shape) → Type 0 where
-  none : Edited [] [] []
-  keep : (i : Item Shape) {r s : List (Item Shape)} {l : List (Shape × Shape)} → Edited r s l → Edited (i ∷ r) (i ∷ s) l
-  swap : (a b : Shape) {r s : List (Item Shape)} {l : List (Shape × Shape)} → Edited r s l
-      → Edited (shape a ∷ r) (shape b ∷ s) ((a, b) ∷ l)
+-- two lists of items that are equal but for pairs of shapes, from the clips c: so the clips of both are the same all along
+pub data Edited {Shape : Type 0} : List (Item Shape) → List (Item Shape) → Clips → List (Pair Shape) → Type 0 where
+  none : {c : Clips} → Edited [] [] c []
+  keep : (i : Item Shape) {r s : List (Item Shape)} {c : Clips} {l : List (Pair Shape)} → Edited r s (after i c) l → Edited (i ∷ r) (i ∷ s) c l
+  swap : (a b : Shape) {r s : List (Item Shape)} {c : Clips} {l : List (Pair Shape)} → Edited r s c l
+      → Edited (shape a ∷ r) (shape b ∷ s) c ((record { under = c .clip; drawn = a }, record { under = c .clip; drawn = b }) ∷ l)
 
 -- such lists have been read off by `change`
 module _ {Shape : Type 0} (same : Item Shape → Item Shape → Bool) (sound : (i j : Item Shape) → same i j ≡ true → i ≡ j) where
-  with-pair : (a b : Shape) {r s : List (Item Shape)} (c : Change Shape) (l : List (Shape × Shape))
-      → ((k : List (Shape × Shape)) → c ≡ shapes k → Edited r s k) → withPair a b c ≡ shapes l → Edited (shape a ∷ r) (shape b ∷ s) l
+  with-pair : (a b : Shape) {r s : List (Item Shape)} (u : Clips) (c : Change Shape) (l : List (Pair Shape))
+      → ((k : List (Pair Shape)) → c ≡ shapes k → Edited r s u k)
+      → withPair (record { under = u .clip; drawn = a }) (record { under = u .clip; drawn = b }) c ≡ shapes l → Edited (shape a ∷ r) (shape b ∷ s) u l
   unfolding withPair
-  with-pair a b other l f e = absurd (never cc)
-  with-pair a b (shapes k) l f e = let q : (a, b) ∷ k ≡ l = cc in rw (← q) (swap a b (f k refl))
+  with-pair a b u other l f e = absurd (never cc)
+  with-pair a b u (shapes k) l f e =
+      let q : (record { under = u .clip; drawn = a }, record { under = u .clip; drawn = b }) ∷ k ≡ l = cc in rw (← q) (swap a b (f k refl))
 
-  both-shapes : (i j : Item Shape) {r s : List (Item Shape)} (c : Change Shape) (l : List (Shape × Shape))
-      → ((k : List (Shape × Shape)) → c ≡ shapes k → Edited r s k) → bothShapes i j c ≡ shapes l → Edited (i ∷ r) (j ∷ s) l
-  unfolding bothShapes
-  both-shapes (push s b) j c l f e = absurd (never cc)
-  both-shapes (pop s) j c l f e = absurd (never cc)
-  both-shapes (shape a) (push s b) c l f e = absurd (never cc)
-  both-shapes (shape a) (pop s) c l f e = absurd (never cc)
-  both-shapes (shape a) (shape b) c l f e = with-pair a b c l f e
+  both-shapes : (i j : Item Shape) (r s : List (Item Shape)) (u : Clips) (l : List (Pair Shape))
+      → ((k : List (Pair Shape)) → change same r s u u ≡ shapes k → Edited r s u k)
+      → bothShapes (u .clip) (u .clip) i j (change same r s (after i u) (after j u)) ≡ shapes l → Edited (i ∷ r) (j ∷ s) u l
+  unfolding bothShapes after
+  both-shapes (push p b) j r s u l f e = absurd (never cc)
+  both-shapes (pop p) j r s u l f e = absurd (never cc)
+  both-shapes (shape a) (push p b) r s u l f e = absurd (never cc)
+  both-shapes (shape a) (pop p) r s u l f e = absurd (never cc)
+  both-shapes (shape a) (shape b) r s u l f e = with-pair a b u (change same r s u u) l f e
 
-  pub edited : (r s : List (Item Shape)) (l : List (Shape × Shape)) → change same r s ≡ shapes l → Edited r s l
+  pub edited : (r s : List (Item Shape)) (u : Clips) (l : List (Pair Shape)) → change same r s u u ≡ shapes l → Edited r s u l
   unfolding change
-  edited [] [] l e = let q : [] ≡ l = cc in rw (← q) none
-  edited [] (j ∷ s) l e = absurd (never cc)
-  edited (i ∷ r) [] l e = absurd (never cc)
-  edited (i ∷ r) (j ∷ s) l e = go (same i j) refl e (edited r s)
+  edited [] [] u l e = let q : [] ≡ l = cc in rw (← q) none
+  edited [] (j ∷ s) u l e = absurd (never cc)
+  edited (i ∷ r) [] u l e = absurd (never cc)
+  edited (i ∷ r) (j ∷ s) u l e = go (same i j) refl e (edited r s)
     where
-      go : (t : Bool) → same i j ≡ t → cond t (change same r s) (bothShapes i j (change same r s)) ≡ shapes l
-          → ((k : List (Shape × Shape)) → change same r s ≡ shapes k → Edited r s k) → Edited (i ∷ r) (j ∷ s) l
-      go true p q f = rw (← sound i j p) (keep i (f l q))
-      go false p q f = both-shapes i j (change same r s) l f q
+      rest : Change Shape
+      rest = change same r s (after i u) (after j u)
+
+      go : (t : Bool) → same i j ≡ t → cond t rest (bothShapes (u .clip) (u .clip) i j rest) ≡ shapes l
+          → ((w : Clips) (k : List (Pair Shape)) → change same r s w w ≡ shapes k → Edited r s w k) → Edited (i ∷ r) (j ∷ s) u l
+      go true p q f = rw (← sound i j p) (keep i (f (after i u) l (rw (← sound i j p) at q)))
+      go false p q f = both-shapes i j r s u l (f u) q
 
 module _ (K : Kind) (x y : ℕ) where
   -- a step that does not meet the pixel leaves it
-  missed : (c : IRect) (a : K .Shape) (p : ℕ) → inside (K .reach a) (pos x) (pos y) ≡ false
-      → inked K (meets K (record { under = c; drawn = a }) x y) a x y p ≡ p
+  missed : (t : Step (K .Shape)) (p : ℕ) → inside (cutReach (K .reach) t) (pos x) (pos y) ≡ false → inked K (meets K t x y) (t .drawn) x y p ≡ p
   unfolding inked meets
-  missed c a p e = go (inside c (pos x) (pos y)) (inside (K .reach a) (pos x) (pos y)) e
-    where
-      go : (i j : Bool) → j ≡ false → inked K (i && j) a x y p ≡ p
-      go true j q = rw q
-      go false j q = refl
+  missed t p e = ap (λ (m : Bool). inked K m (t .drawn) x y p) (sym (in-meet (t .under) (K .reach (t .drawn)) (pos x) (pos y)) ∙ e)
 
-  out-pair : (a b : K .Shape) (l : List (K .Shape × K .Shape)) → inAny (reaches (K .reach) ((a, b) ∷ l)) (pos x) (pos y) ≡ false
-      → (inside (K .reach a) (pos x) (pos y) ≡ false) × (inside (K .reach b) (pos x) (pos y) ≡ false)
-      × (inAny (reaches (K .reach) l) (pos x) (pos y) ≡ false)
+  -- the pixels of a pair are those of both its shapes
+  in-pair : (a b : Step (K .Shape)) (l : List (Pair (K .Shape))) → inAny (reaches (K .reach) ((a, b) ∷ l)) (pos x) (pos y)
+      ≡ inside (meet (a .under) (K .reach (a .drawn))) (pos x) (pos y) || (inside (meet (b .under) (K .reach (b .drawn))) (pos x) (pos y) || inAny (reaches (K .reach) l) (pos x) (pos y))
   unfolding inAny reaches
+  in-pair a b l = refl
+
+  out-pair : (a b : Step (K .Shape)) (l : List (Pair (K .Shape))) → inAny (reaches (K .reach) ((a, b) ∷ l)) (pos x) (pos y) ≡ false
+      → (inside (cutReach (K .reach) a) (pos x) (pos y) ≡ false) × (inside (cutReach (K .reach) b) (pos x) (pos y) ≡ false)
+      × (inAny (reaches (K .reach) l) (pos x) (pos y) ≡ false)
   out-pair a b l o =
-      let u = or-false (inside (K .reach a) (pos x) (pos y)) _ o in
-      let v = or-false (inside (K .reach b) (pos x) (pos y)) _ (u .1) in
+      let u = or-false (inside (cutReach (K .reach) a) (pos x) (pos y)) _ (sym (in-pair a b l) ∙ o) in
+      let v = or-false (inside (cutReach (K .reach) b) (pos x) (pos y)) _ (u .1) in
       (u .0, v .0, v .1)
 
-  pub untouched : {r s : List (Item (K .Shape))} {l : List (K .Shape × K .Shape)} → Edited r s l
+  pub untouched : {r s : List (Item (K .Shape))} {c : Clips} {l : List (Pair (K .Shape))} → Edited r s c l
       → inAny (reaches (K .reach) l) (pos x) (pos y) ≡ false
-      → (c : Clips) (p : ℕ) → pixel K (steps r c) x y p ≡ pixel K (steps s c) x y p
+      → (p : ℕ) → pixel K (steps r c) x y p ≡ pixel K (steps s c) x y p
   unfolding steps withStep after pixel
-  untouched none o c p = refl
-  untouched (keep (push s b) e) o c p = untouched e o _ p
-  untouched (keep (pop s) e) o c p = untouched e o _ p
-  untouched (keep (shape a) e) o c p = untouched e o c _
-  untouched (swap a b {r = r} {s = s} {l = l} e) o c p =
-      let u = out-pair a b l o in
-      ap (λ (q : ℕ). pixel K (steps r c) x y q) (missed (c .clip) a p (u .0))
-      ∙ untouched e (u .2) c p
-      ∙ sym (ap (λ (q : ℕ). pixel K (steps s c) x y q) (missed (c .clip) b p (u .1)))
+  untouched none o p = refl
+  untouched (keep (push s b) e) o p = untouched e o p
+  untouched (keep (pop s) e) o p = untouched e o p
+  untouched (keep (shape a) e) o p = untouched e o _
+  untouched (swap a b {r = r} {s = s} {c = c} {l = l} e) o p =
+      let u = out-pair _ _ l o in
+      ap (λ (q : ℕ). pixel K (steps r c) x y q) (missed _ p (u .0))
+      ∙ untouched e (u .2) p
+      ∙ sym (ap (λ (q : ℕ). pixel K (steps s c) x y q) (missed _ p (u .1)))
 
 -- ---- lists by place
 
@@ -190,8 +196,8 @@ module _ (K : Kind) (pitch : ℕ) where
       record { shows = λ i h f. inside-drawn frame ground items px i (rw length-drawn at h) f }
 
   -- drawing in a box that holds what differing shapes have in the frame
-  pub redrawn : (frame box : IRect) (ground : ℕ) (r s : List (Item (K .Shape))) (l : List (K .Shape × K .Shape)) (px : List ℕ)
-      → Edited r s l → HoldsEach box frame (reaches (K .reach) l)
+  pub redrawn : (frame box : IRect) (ground : ℕ) (r s : List (Item (K .Shape))) (l : List (Pair (K .Shape))) (px : List ℕ)
+      → Edited r s (only frame) l → HoldsEach box frame (reaches (K .reach) l)
       → Shows frame ground r px → Shows frame ground s (paintedIn K pitch box ground s px)
   redrawn frame box ground r s l px e h old = record { shows = λ i k f. go i (rw length-drawn at k) f (holds-word box i) refl }
     where
@@ -205,4 +211,4 @@ module _ (K : Kind) (pitch : ℕ) where
           inside-drawn box ground s px i k b ∙ first-clip K (i % pitch) (i / pitch) s box frame ground b f
       go i k f false b =
           outside-kept box ground s px i k b ∙ old .shows i k f
-          ∙ unfold pixelOf in untouched K (i % pitch) (i / pitch) e (out i f b) (only frame) ground
+          ∙ unfold pixelOf in untouched K (i % pitch) (i / pitch) e (out i f b) ground

@@ -1,4 +1,4 @@
--- The theory of redrawing; `demand-3` stands in Lists, the laws of a wider frame in Frames.
+-- The theory of redrawing; `demand-3` stands in Lists, the laws of a wider frame in Frames, of smaller boxes in Cuts.
 pub mod Drawn
 pub mod Items
 pub mod Lists
@@ -9,3 +9,4 @@ pub mod Measured
 pub mod Layouts
 pub mod Busy
 pub mod Ceilings
+pub mod Cuts

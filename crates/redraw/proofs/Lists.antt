@@ -18,7 +18,7 @@ use Rattle.geom.specs.declared.IRect.{IRect}
 use Rattle.geom.proofs.Int.{orderZ}
 use Rattle.geom.specs.Box.{inside, hull}
 use Rattle.redraw.specs.Drawing.{Kind, only, pixelOf, paintedIn, groundIn}
-use Rattle.redraw.specs.Sheet.{Format, Lawful, Sheet, Reading, read, refused, Change, other, shapes, change, reaches, Outcome, refuses, draws, few, tooMany, canvas, sameHeader, drawsUnless, lentNumber, lent, paintOf, patchBy, patchOf, painting, patching, refusal, answer, pixels, cleared, accepted, fresh}
+use Rattle.redraw.specs.Sheet.{Format, Lawful, Sheet, Reading, read, refused, Pair, Change, other, shapes, changeIn, reaches, Outcome, refuses, draws, few, tooMany, canvas, sameHeader, drawsUnless, lentNumber, lent, paintOf, patchBy, patchOf, painting, patching, refusal, answer, pixels, cleared, accepted, fresh}
 use Rattle.redraw.specs.Calls.{Shown, Call, Painted, Patched, model, keptAfter, Follow, Confined, Right, Always}
 use Rattle.geom.proofs.Bools.{and-left, and-right, same-test}
 use Rattle.geom.proofs.Refusals.{passed, then-open}
@@ -103,17 +103,17 @@ module _ (F : Format) where
   pub record Patches (old new : List ℕ) (pitch pl sl : ℕ) : Type 0 where
     pub from : Sheet (F .kind .Shape)
     pub to : Sheet (F .kind .Shape)
-    pub pairs : List (F .kind .Shape × F .kind .Shape)
+    pub pairs : List (Pair (F .kind .Shape))
     pub reads-from : F .reading old ≡ read from
     pub reads-to : F .reading new ≡ read to
     pub header : sameHeader from to ≡ true
-    pub differ : change (F .same) (from .items) (to .items) ≡ shapes pairs
+    pub differ : changeIn F (canvas to) from to ≡ shapes pairs
     pub lends : Lends to pitch pl sl
     pub is : patching F old new pitch pl sl ≡ draws to (hull (canvas to) (reaches (F .kind .reach) pairs))
 
   module _ (old new : List ℕ) (pitch pl sl : ℕ) where
     by-change : (a b : Sheet (F .kind .Shape)) → F .reading old ≡ read a → F .reading new ≡ read b → sameHeader a b ≡ true
-        → (c : Change (F .kind .Shape)) → change (F .same) (a .items) (b .items) ≡ c
+        → (c : Change (F .kind .Shape)) → changeIn F (canvas b) a b ≡ c
         → patching F old new pitch pl sl ≡ patchBy F c b pitch pl sl
         → accepted (patchBy F c b pitch pl sl) ≡ true → Patches old new pitch pl sl
     unfolding patchBy accepted tooMany
@@ -130,10 +130,10 @@ module _ (F : Format) where
 
     by-header : (a b : Sheet (F .kind .Shape)) → F .reading old ≡ read a → F .reading new ≡ read b
         → (t : Bool) → sameHeader a b ≡ t
-        → patching F old new pitch pl sl ≡ cond t (patchBy F (change (F .same) (a .items) (b .items)) b pitch pl sl) (refuses 10 0)
-        → accepted (cond t (patchBy F (change (F .same) (a .items) (b .items)) b pitch pl sl) (refuses 10 0)) ≡ true → Patches old new pitch pl sl
+        → patching F old new pitch pl sl ≡ cond t (patchBy F (changeIn F (canvas b) a b) b pitch pl sl) (refuses 10 0)
+        → accepted (cond t (patchBy F (changeIn F (canvas b) a b) b pitch pl sl) (refuses 10 0)) ≡ true → Patches old new pitch pl sl
     unfolding accepted
-    by-header a b p q true h is e = by-change a b p q h (change (F .same) (a .items) (b .items)) refl is e
+    by-header a b p q true h is e = by-change a b p q h (changeIn F (canvas b) a b) refl is e
     by-header a b p q false h is e = absurd (false≢true e)
 
     by-readings : (r s : Reading (F .kind .Shape)) → F .reading old ≡ r → F .reading new ≡ s
@@ -300,8 +300,8 @@ module _ (F : Format) (law : Lawful F) where
       go (read a) (refused n k) p q = law .numbered new n k q
       go (read a) (read b) p q = by-header (sameHeader a b)
         where
-          by-header : (t : Bool) → Numbered (cond t (patchBy F (change (F .same) (a .items) (b .items)) b pitch pl sl) (refuses 10 0))
-          by-header true = change-numbered (change (F .same) (a .items) (b .items)) b pitch pl sl
+          by-header : (t : Bool) → Numbered (cond t (patchBy F (changeIn F (canvas b) a b) b pitch pl sl) (refuses 10 0))
+          by-header true = change-numbered (changeIn F (canvas b) a b) b pitch pl sl
           by-header false = lit≤ tt
 
 -- ---- one call, and a list of calls
@@ -373,7 +373,7 @@ module _ {Word : Type 0} (zeroWord : Word) (F : Format) (law : Lawful F) where
       room = rw (← pitch-kept p s) (p .lends .frame .rows .room);
       long = n ∙ s .long ∙ ap (λ (k : ℕ). pitch * k) (ap (λ (t : Sheet (F .kind .Shape)). t .h) held-is ∙ same-h (p .from) new (p .header));
       fresh-words = words new pitch (c .px-left) (rw d (redrawn (F .kind) pitch (canvas new) box (new .ground) (p .from .items) (new .items) (p .pairs) px
-          (edited (F .same) (law .sound) (p .from .items) (new .items) (p .pairs) (p .differ))
+          (edited (F .same) (law .sound) (p .from .items) (new .items) (only (canvas new)) (p .pairs) (p .differ))
           (hull-smallest (canvas new) (reaches (F .kind .reach) (p .pairs)) .around) shows-old));
       margin = λ i k f. rw d (outside-kept (F .kind) pitch box (new .ground) (new .items) px i (rw n at k) (out-of-hull (canvas new) (reaches (F .kind .reach) (p .pairs)) _ _ f))
           ∙ s .margin i (rw n at k) (rw canvas-held f);

@@ -12,7 +12,7 @@ use Rattle.draw.specs.Frame.{pitchOk, pitchNumber, frameNumber}
 use Rattle.geom.specs.Box.{hull}
 use Rattle.geom.specs.declared.IRect.{IRect}
 use Rattle.redraw.specs.Drawing.{Item, push, pop, shape, Clips, after, withStep, steps, Kind}
-use Rattle.redraw.specs.Sheet.{Format, Sheet, Reading, read, refused, Change, other, shapes, change, reaches, refuses, draws, few, tooMany, canvas, sameHeader, drawsUnless, lentNumber, lent, paintOf, patchBy, patchOf, painting, patching}
+use Rattle.redraw.specs.Sheet.{Format, Sheet, Reading, read, refused, Change, other, shapes, changeIn, reaches, refuses, draws, few, tooMany, canvas, sameHeader, drawsUnless, lentNumber, lent, paintOf, patchBy, patchOf, painting, patching}
 use Rattle.redraw.specs.Measure.{deepest, met, metAll, roomOf, measuring, Least}
 use Rattle.redraw.proofs.Rules.{paint-unlent}
 
@@ -91,7 +91,7 @@ module _ (F : Format) where
           unused sheet i (rw nine at e)
       patched (read s) (read a) e d q = by (sameHeader a s) q
         where
-          by : (t : Bool) → cond t (patchBy F (change (F .same) (a .items) (s .items)) s pitch pl sl) (refuses 10 0) ≡ refuses 9 k → ⊥
+          by : (t : Bool) → cond t (patchBy F (changeIn F (canvas s) a s) s pitch pl sl) (refuses 10 0) ≡ refuses 9 k → ⊥
           by true q = change-enough _ s pitch pl sl k (rw (told sheet s e) at l) q
           by false q = let z : _≡_ {A = ℕ} 10 9 = cc in omega arith
 

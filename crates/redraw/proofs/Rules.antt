@@ -11,7 +11,7 @@ use Rattle.redraw.specs.declared.Reply.{Reply}
 use Rattle.redraw.specs.Counts.{stepsOf, groundsOf}
 use Rattle.geom.specs.declared.IRect.{IRect}
 use Rattle.geom.specs.Box.{noBox, hull}
-use Rattle.redraw.specs.Sheet.{Format, Sheet, Reading, read, refused, Change, other, shapes, change, reaches, Outcome, refuses, draws, few, tooMany, canvas, sameHeader, drawsUnless, lentNumber, lent, paintOf, patchBy, patchOf, painting, patching, answer, pixels, cleared}
+use Rattle.redraw.specs.Sheet.{Format, Sheet, Reading, read, refused, Pair, Change, other, shapes, changeIn, reaches, Outcome, refuses, draws, few, tooMany, canvas, sameHeader, drawsUnless, lentNumber, lent, paintOf, patchBy, patchOf, painting, patching, answer, pixels, cleared}
 use Rattle.redraw.specs.Drawing.{Kind}
 use Rattle.redraw.specs.Calls.{refusedBy, Does}
 use Rattle.geom.proofs.Boxes.{in-noBox}
@@ -63,7 +63,7 @@ module _ (F : Format) (old new : List ℕ) (pitch pl sl : ℕ) where
 
     module _ (b : Sheet (F .kind .Shape)) (q : F .reading new ≡ read b) where
       after-new : patching F old new pitch pl sl
-          ≡ cond (sameHeader a b) (patchBy F (change (F .same) (a .items) (b .items)) b pitch pl sl) (refuses 10 0)
+          ≡ cond (sameHeader a b) (patchBy F (changeIn F (canvas b) a b) b pitch pl sl) (refuses 10 0)
       unfolding patchOf
       after-new = after-old ∙ ap (λ (r : Reading (F .kind .Shape)). patchOf F (read a) r pitch pl sl) q
 
@@ -71,15 +71,15 @@ module _ (F : Format) (old new : List ℕ) (pitch pl sl : ℕ) where
       patch-header h = after-new ∙ rw h
 
       module _ (h : sameHeader a b ≡ true) where
-        after-header : (c : Change (F .kind .Shape)) → change (F .same) (a .items) (b .items) ≡ c
+        after-header : (c : Change (F .kind .Shape)) → changeIn F (canvas b) a b ≡ c
             → patching F old new pitch pl sl ≡ patchBy F c b pitch pl sl
         after-header c d = after-new ∙ rw (h, d)
 
-        pub patch-other : change (F .same) (a .items) (b .items) ≡ other → patching F old new pitch pl sl ≡ refuses 10 0
+        pub patch-other : changeIn F (canvas b) a b ≡ other → patching F old new pitch pl sl ≡ refuses 10 0
         unfolding patchBy
         patch-other d = after-header other d
 
-        module _ (l : List (F .kind .Shape × F .kind .Shape)) (d : change (F .same) (a .items) (b .items) ≡ shapes l) where
+        module _ (l : List (Pair (F .kind .Shape))) (d : changeIn F (canvas b) a b ≡ shapes l) where
           pub patch-many : few l ≡ false → patching F old new pitch pl sl ≡ tooMany
           unfolding patchBy
           patch-many m = after-header (shapes l) d ∙ rw m

@@ -10,7 +10,7 @@ use lib.ListN.{length, getD}
 use Rattle.redraw.specs.declared.Reply.{Reply}
 use Rattle.geom.specs.Box.{inside, Smallest}
 use Rattle.redraw.specs.Counts.{stepsOf, groundsOf, freshSteps}
-use Rattle.redraw.specs.Sheet.{Format, Sheet, read, shapes, change, reaches, Outcome, canvas, painting, patching, refusal, answer, pixels, cleared, accepted, fresh}
+use Rattle.redraw.specs.Sheet.{Format, Sheet, read, Pair, shapes, changeIn, reaches, Outcome, canvas, painting, patching, refusal, answer, pixels, cleared, accepted, fresh}
 
 module _ (F : Format) where
   -- in rows of `pitch` words, the words of px inside the canvas are the fresh painting of the sheet that some bytes hold, and the
@@ -68,15 +68,15 @@ module _ {Word : Type 0} (zeroWord : Word) (F : Format) where
       Patched kept (c .sheet) (c .pitch) px (c .scratch) (c .answered) (c .px-left) (c .scratch-left)
       × Follow (keptAfter kept (length px) c) (c .px-left) cs
 
-  -- an accepted call: its box is the smallest around the reaches, on the canvas, of the shapes that differ, and it altered no pixel
-  -- outside that box
+  -- an accepted call: its box is the smallest around the reaches, each cut by its clip and on the canvas, of the shapes that differ, and it
+  -- altered no pixel outside that box
   pub record Confined (kept px : List ℕ) (c : Call Word) : Type 0 where
     pub old : Sheet (F .kind .Shape)
     pub new : Sheet (F .kind .Shape)
-    pub pairs : List (F .kind .Shape × F .kind .Shape)
+    pub pairs : List (Pair (F .kind .Shape))
     pub reads-old : F .reading kept ≡ read old
     pub reads-new : F .reading (c .sheet) ≡ read new
-    pub differ : change (F .same) (old .items) (new .items) ≡ shapes pairs
+    pub differ : changeIn F (canvas new) old new ≡ shapes pairs
     pub smallest : Smallest (canvas new) (reaches (F .kind .reach) pairs) (c .answered .answer .area)
     pub outside : (i : ℕ) → i < length px → inside (c .answered .answer .area) (pos (i % c .pitch)) (pos (i / c .pitch)) ≡ false
         → getD (c .px-left) i 0 ≡ getD px i 0

@@ -1,4 +1,4 @@
--- A CEILING ON PATCH WORK (document 02, 2026-06), over any format; at the sheet of document 01 it is proved in replay proofs/Theorem.
+-- A CEILING ON PATCH WORK (document 02, 2026-06; "The counts of 2026-06 use it too", the reach of 2026-09), over any format; at the sheet of document 01 it is proved in replay proofs/Theorem.
 use mathlib.Core.Bool.{true, cond}
 use mathlib.Core.List.{List, [], _∷_}
 use mathlib.Core.Path.{_≡_}
@@ -8,32 +8,33 @@ use Rattle.geom.specs.Int.{up}
 use Rattle.geom.specs.Box.{meet, empty}
 use Rattle.draw.specs.Parts.{Part}
 use Rattle.redraw.specs.declared.Reply.{Reply}
-use Rattle.redraw.specs.Drawing.{Item, push, pop, shape, Kind}
-use Rattle.redraw.specs.Sheet.{Format, Reading, refused, read}
+use Rattle.redraw.specs.Drawing.{Item, push, pop, shape, Clips, only, after, Kind}
+use Rattle.redraw.specs.Sheet.{Format, Reading, refused, read, canvas}
 use Rattle.redraw.specs.Calls.{Patched}
 
 -- "the box's area": columns times rows. A reported box is four zeros or lies in the canvas, so it has no negative side.
 abbrev pub boxArea : IRect → ℕ
 boxArea b = (up (b .x1) - up (b .x0)) * (up (b .y1) - up (b .y0))
 
--- how many of a shape's parts have a reach that meets a box, that is, shares a pixel with it
-unfoldable pub partsMeeting : IRect → List Part → ℕ
-partsMeeting box [] = 0
-partsMeeting box (a ∷ l) = cond (empty (meet box (a .reach))) 0 1 + partsMeeting box l
+-- how many of a shape's parts have a reach that, cut by the clip in force at the shape, meets a box, that is, shares a pixel with it
+unfoldable pub partsMeeting : IRect → IRect → List Part → ℕ
+partsMeeting box clip [] = 0
+partsMeeting box clip (a ∷ l) = cond (empty (meet box (meet clip (a .reach)))) 0 1 + partsMeeting box clip l
 
 module _ (K : Kind) where
   -- "the number of shapes": a shape that is one part stands once where its reach meets the box; "In that number a chain stands once for each of
   -- its segments whose reach meets the box", since its segments are its parts
-  unfoldable pub shapesMeeting : IRect → List (Item (K .Shape)) → ℕ
-  shapesMeeting box [] = 0
-  shapesMeeting box (push s b ∷ r) = shapesMeeting box r
-  shapesMeeting box (pop s ∷ r) = shapesMeeting box r
-  shapesMeeting box (shape a ∷ r) = partsMeeting box (K .parts a) + shapesMeeting box r
+  -- from the clips c
+  unfoldable pub shapesMeeting : IRect → List (Item (K .Shape)) → Clips → ℕ
+  shapesMeeting box [] c = 0
+  shapesMeeting box (push s b ∷ r) c = shapesMeeting box r (after {Shape = K .Shape} (push s b) c)
+  shapesMeeting box (pop s ∷ r) c = shapesMeeting box r (after {Shape = K .Shape} (pop s) c)
+  shapesMeeting box (shape a ∷ r) c = partsMeeting box (c .clip) (K .parts a) + shapesMeeting box r c
 
-  -- "the number of shapes in the new sheet whose reach meets the reported box": of what its bytes were read as
+  -- "the number of shapes in the new sheet whose reach meets the reported box": of what its bytes were read as, painted from nothing
   unfoldable pub readMeeting : IRect → Reading (K .Shape) → ℕ
   readMeeting box (refused n k) = 0
-  readMeeting box (read s) = shapesMeeting box (s .items)
+  readMeeting box (read s) = shapesMeeting box (s .items) (only (canvas s))
 
   -- what is claimed of a patch that returned r. "Both are the numbers returned by the patch itself": r's own, as the box is.
   pub record Ceiling (new : Reading (K .Shape)) (r : Reply) : Type 0 where

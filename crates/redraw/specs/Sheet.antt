@@ -9,11 +9,11 @@ use lib.Dec.{leb, eqb}
 use lib.ListN.{length, drop, replicate}
 use Rattle.redraw.specs.declared.Answer.{Answer}
 use Rattle.geom.specs.declared.IRect.{IRect}
-use Rattle.geom.specs.Box.{noBox, hull}
+use Rattle.geom.specs.Box.{noBox, meet, hull}
 use Rattle.geom.specs.Refusals.{unless, andThen}
 use Rattle.draw.specs.Frame.{frameNumber}
 use Rattle.draw.specs.Parts.{drawnAll}
-use Rattle.redraw.specs.Drawing.{Item, push, pop, shape, Kind, only, shapeOn, itemsOn, groundIn}
+use Rattle.redraw.specs.Drawing.{Item, push, pop, shape, Clips, only, after, Step, Kind, shapeOn, itemsOn, groundIn}
 
 -- a sheet that was read
 pub record Sheet (Shape : Type 0) : Type 0 where
@@ -45,33 +45,45 @@ pub record Lawful (F : Format) : Type 0 where
 
 -- ---- how two lists of items differ
 
--- in a push, a pop or their count; or only in shapes: the pairs of shapes that differ, the old one first
+-- two shapes that differ, the old one first, each with the clip in force at it
+abbrev pub Pair : Type 0 → Type 0
+Pair Shape = Step Shape × Step Shape
+
+-- in a push, a pop or their count; or only in shapes: the pairs that differ
 pub data Change (Shape : Type 0) : Type 0 where
   other : Change Shape
-  shapes : List (Shape × Shape) → Change Shape
+  shapes : List (Pair Shape) → Change Shape
 
-unfoldable pub withPair : {Shape : Type 0} → Shape → Shape → Change Shape → Change Shape
+unfoldable pub withPair : {Shape : Type 0} → Step Shape → Step Shape → Change Shape → Change Shape
 withPair a b other = other
 withPair a b (shapes l) = shapes ((a, b) ∷ l)
 
-unfoldable pub bothShapes : {Shape : Type 0} → Item Shape → Item Shape → Change Shape → Change Shape
-bothShapes (push s b) j c = other
-bothShapes (pop s) j c = other
-bothShapes (shape a) (push s b) c = other
-bothShapes (shape a) (pop s) c = other
-bothShapes (shape a) (shape b) c = withPair a b c
+-- two items that differ, the old one where the clip u is in force, the new one where v is
+unfoldable pub bothShapes : {Shape : Type 0} → IRect → IRect → Item Shape → Item Shape → Change Shape → Change Shape
+bothShapes u v (push s b) j c = other
+bothShapes u v (pop s) j c = other
+bothShapes u v (shape a) (push s b) c = other
+bothShapes u v (shape a) (pop s) c = other
+bothShapes u v (shape a) (shape b) c = withPair (record { under = u; drawn = a }) (record { under = v; drawn = b }) c
 
 module _ {Shape : Type 0} (same : Item Shape → Item Shape → Bool) where
-  unfoldable pub change : List (Item Shape) → List (Item Shape) → Change Shape
-  change [] [] = shapes []
-  change [] (j ∷ s) = other
-  change (i ∷ r) [] = other
-  change (i ∷ r) (j ∷ s) = cond (same i j) (change r s) (bothShapes i j (change r s))
+  -- from the clips c of the old items and the clips d of the new ones, each altered by its own items
+  unfoldable pub change : List (Item Shape) → List (Item Shape) → Clips → Clips → Change Shape
+  change [] [] c d = shapes []
+  change [] (j ∷ s) c d = other
+  change (i ∷ r) [] c d = other
+  change (i ∷ r) (j ∷ s) c d =
+      let rest = change r s (after i c) (after j d) in
+      cond (same i j) rest (bothShapes (c .clip) (d .clip) i j rest)
+
+-- "the reach used for the patch box is cut by the clip in force at that item"
+abbrev pub cutReach : {Shape : Type 0} → (Shape → IRect) → Step Shape → IRect
+cutReach reach s = meet (s .under) (reach (s .drawn))
 
 -- the boxes of the pairs
-unfoldable pub reaches : {Shape : Type 0} → (Shape → IRect) → List (Shape × Shape) → List IRect
+unfoldable pub reaches : {Shape : Type 0} → (Shape → IRect) → List (Pair Shape) → List IRect
 reaches reach [] = []
-reaches reach (p ∷ l) = reach (p .0) ∷ reach (p .1) ∷ reaches reach l
+reaches reach (p ∷ l) = cutReach reach (p .0) ∷ cutReach reach (p .1) ∷ reaches reach l
 
 -- ---- what a call does
 
@@ -81,7 +93,7 @@ pub data Outcome (Shape : Type 0) : Type 0 where
   draws : Sheet Shape → IRect → Outcome Shape
 
 -- up to 32 pairs of shapes may differ; more are refused by 14
-unfoldable pub few : {Shape : Type 0} → List (Shape × Shape) → Bool
+unfoldable pub few : {Shape : Type 0} → List (Pair Shape) → Bool
 few l = leb (length l) 32
 
 unfoldable pub tooMany : {Shape : Type 0} → Outcome Shape
@@ -110,6 +122,10 @@ module _ (F : Format) where
   paintOf (refused n k) pitch pxLen scratchLen = refuses n k
   paintOf (read s) pitch pxLen scratchLen = lent s pitch pxLen scratchLen (canvas s)
 
+  -- how two sheets differ, each painted from nothing with a first clip
+  abbrev pub changeIn : IRect → Sheet (F .kind .Shape) → Sheet (F .kind .Shape) → Change (F .kind .Shape)
+  changeIn first a b = change (F .same) (a .items) (b .items) (only first) (only first)
+
   unfoldable pub patchBy : Change (F .kind .Shape) → Sheet (F .kind .Shape) → ℕ → ℕ → ℕ → Outcome (F .kind .Shape)
   patchBy other s pitch pxLen scratchLen = refuses 10 0
   patchBy (shapes l) s pitch pxLen scratchLen =
@@ -119,7 +135,7 @@ module _ (F : Format) where
   patchOf (refused n k) new pitch pxLen scratchLen = refuses n k
   patchOf (read a) (refused n k) pitch pxLen scratchLen = refuses n k
   patchOf (read a) (read b) pitch pxLen scratchLen =
-      cond (sameHeader a b) (patchBy (change (F .same) (a .items) (b .items)) b pitch pxLen scratchLen) (refuses 10 0)
+      cond (sameHeader a b) (patchBy (changeIn (canvas b) a b) b pitch pxLen scratchLen) (refuses 10 0)
 
   -- the outcome of painting some bytes, and of patching from old bytes to new ones
   unfoldable pub painting : List ℕ → ℕ → ℕ → ℕ → Outcome (F .kind .Shape)

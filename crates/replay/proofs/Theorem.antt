@@ -1,11 +1,13 @@
--- Demand 3 holds, and so do what the counts tell and the ceiling on patch work. Assumes nothing.
+-- Demand 3 holds, and so do what the counts tell, the ceiling on patch work, and what is claimed of boxes under a clip. Assumes nothing.
 use Rattle.items.specs.Format.{format, zeroWord}
 use Rattle.items.proofs.Lawful.{lawful}
 use Rattle.redraw.specs.Calls.{Busy}
 use Rattle.redraw.specs.Ceiling.{PatchCeiling}
+use Rattle.redraw.specs.Before.{Smaller, AsBefore}
 use Rattle.redraw.proofs.Lists as lists
 use Rattle.redraw.proofs.Busy as counts
 use Rattle.redraw.proofs.Ceilings as ceilings
+use Rattle.redraw.proofs.Cuts as cuts
 use Rattle.replay.specs.Demand3.{Demand3}
 
 pub demand-3 : Demand3
@@ -16,3 +18,9 @@ busy = counts.busy zeroWord format lawful
 
 pub ceiling : PatchCeiling zeroWord format
 ceiling = ceilings.ceiling zeroWord format
+
+pub smaller : Smaller format
+smaller = cuts.smaller format
+
+pub as-before : AsBefore format
+as-before = cuts.as-before format lawful

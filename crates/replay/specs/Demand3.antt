@@ -1,5 +1,5 @@
 -- DEMAND 3, whole, at the sheet of document 01, for patches of a set (document 02, 2026-01) that count (2026-05), within a wider
--- frame (2026-07). Proved in proofs/Theorem.
+-- frame (2026-07), with boxes by what clips leave of reaches (2026-09). Proved in proofs/Theorem.
 --
 -- `Painted` and `Patched` are the contracts of `paint` and `patch`, word for word. `Follow` (redraw, specs/Calls): each call is a patch that has
 -- the kept sheet as its old one and finds px as the call before left it. `Always`: what holds after the painting and after each call.
@@ -30,6 +30,7 @@ Demand3 =
     -- "every answer is the document's" (`Right .answers`: the model's, which is fed the two sheets, the pitch and the lengths of px and scratch alone);
     -- with it the counts of that call (`Right .steps`, `Right .grounds`), on px as the call found it;
     -- "no pixel outside the smallest box is altered" (`Confined`: the box is the smallest around all reaches on the canvas, old and new, of the
-    -- shapes that differ, up to 32), and a refused call alters nothing (`Right .unaltered`);
+    -- shapes that differ, up to 32; "the reach used for the patch box is cut by the clip in force at that item when its sheet is painted from
+    -- nothing"), and a refused call alters nothing (`Right .unaltered`);
     -- at the start and after each call, for the whole list
     → Always zeroWord format pitch px sheet px′ calls

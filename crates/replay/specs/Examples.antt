@@ -1,4 +1,4 @@
--- Examples of the ceiling on patch work: each side computes. Assumes nothing.
+-- Examples of the ceiling on patch work, under clips too (document 02, 2026-09): each side computes. Assumes nothing.
 use mathlib.Core.Path.{_≡_, refl}
 use mathlib.Core.List.{List, [], _∷_, _++_}
 use Prim.Native.Nat.{ℕ}
@@ -20,6 +20,7 @@ use Rattle.items.specs.Items.{readPaint, readItem, coordsFrom}
 use Rattle.items.specs.Format.{reachOf, partsOf, needOf, drawnAs, itemsFrom, itemNeed, needs, sameBytes, sameItem, reading, kind, format}
 use Rattle.draw.specs.Frame.{pitchOk, pitchNumber, frameNumber}
 use Rattle.redraw.specs.Sheet.{canvas, sameHeader, few, change, reaches, lentNumber, drawsUnless, lent, patchBy, patchOf, patching, answer}
+use Rattle.redraw.specs.Drawing.{after}
 use Rattle.redraw.specs.Ceiling.{boxArea, partsMeeting, shapesMeeting, readMeeting}
 use Rattle.replay.specs.Starred.{red, zero, two}
 
@@ -34,11 +35,19 @@ eight = 0 ∷ 0 ∷ 0 ∷ 65 ∷ []
 abbrev sixteen : List ℕ
 sixteen = 0 ∷ 0 ∷ 128 ∷ 65 ∷ []
 
--- the sheet 16 × 1, ground 0, with one chain of width 2 from column 0 by column 8 to column 16, red, alpha 128
+-- a chain of width 2 from column 0 by column 8 to column 16, red, alpha 128; a push of the columns 0 up to 6
+abbrev chain : List ℕ
+chain = 8 ∷ 0 ∷ 3 ∷ 0 ∷ two ++ 255 ∷ 0 ∷ 0 ∷ 128 ∷ zero ++ zero ++ eight ++ zero ++ sixteen ++ zero
+
+abbrev push : List ℕ
+push = 1 ∷ 0 ∷ 0 ∷ 0 ∷ zero ++ zero ++ 0 ∷ 0 ∷ 192 ∷ 64 ∷ 0 ∷ 0 ∷ 128 ∷ 63 ∷ []
+
+-- the sheet 16 × 1, ground 0, with the chain alone, and with the chain under the push
 abbrev trace : List ℕ
-trace =
-    16 ∷ 0 ∷ 1 ∷ 0 ∷ 0 ∷ 0 ∷ 0 ∷ 0 ∷ 1 ∷ 0 ∷ 0 ∷ 0 ∷ 16 ∷ 0 ∷ 36 ∷ 0 ∷ 8 ∷ 0 ∷ 3 ∷ 0 ∷ two ++ 255 ∷ 0 ∷ 0 ∷ 128
-    ∷ zero ++ zero ++ eight ++ zero ++ sixteen ++ zero
+trace = 16 ∷ 0 ∷ 1 ∷ 0 ∷ 0 ∷ 0 ∷ 0 ∷ 0 ∷ 1 ∷ 0 ∷ 0 ∷ 0 ∷ 16 ∷ 0 ∷ 36 ∷ 0 ∷ chain
+
+abbrev clipped : List ℕ
+clipped = 16 ∷ 0 ∷ 1 ∷ 0 ∷ 0 ∷ 0 ∷ 0 ∷ 0 ∷ 2 ∷ 0 ∷ 0 ∷ 0 ∷ 20 ∷ 0 ∷ 20 ∷ 0 ∷ 40 ∷ 0 ∷ 36 ∷ 0 ∷ push ++ chain
 
 -- the shapes of a sheet that meet a box
 abbrev meeting : IRect → List ℕ → ℕ
@@ -55,7 +64,11 @@ pub ceilings :
     × (meeting (columns 0 7) trace ≡ 2)
     × (meeting (columns 10 16) trace ≡ 1)
     × (meeting noBox trace ≡ 0)
+    -- under the push the first reaches up to 6, and the second nothing
+    × (meeting (columns 0 7) clipped ≡ 1)
+    × (meeting (columns 5 16) clipped ≡ 1)
+    × (meeting (columns 6 16) clipped ≡ 0)
     -- a patch between equal sheets is accepted, and its box is empty
     × (answer (patching format (red two) (red two) 4 4 0) ≡ record { number = 0; item = 0; area = noBox })
-unfolding patching patchOf patchBy lent lentNumber drawsUnless frameNumber pitchNumber pitchOk answer sameItem sameBytes sameHeader change few reaches canvas joinAll needOf itemNeed needs readMeeting shapesMeeting partsMeeting reading sheetCheck checks.itemsFrom numberAt depthAt headNumber headerOk pairsOk pairsFrom itemNumber savedOk floatsOk paintFloatsOk bytesOk paintBytesOk pointsOk lengthOk layoutAt allAt floatOk itemsFrom drawnAs readItem readPaint coordsFrom reachOf partsOf linesFrom lineReach absOf empty meet maxZ minZ noBox fillReach noArea outerOf floorOf ceilOf ofBits round add sub mul ofInt lt le eq ne neg toSigned toUnsigned
-ceilings = (refl, refl, refl, refl, refl, refl, refl, refl)
+unfolding patching patchOf patchBy lent lentNumber drawsUnless frameNumber pitchNumber pitchOk answer sameItem sameBytes sameHeader change after few reaches canvas joinAll needOf itemNeed needs readMeeting shapesMeeting partsMeeting reading sheetCheck checks.itemsFrom numberAt depthAt headNumber headerOk pairsOk pairsFrom itemNumber savedOk floatsOk paintFloatsOk bytesOk paintBytesOk pointsOk lengthOk layoutAt allAt floatOk itemsFrom drawnAs readItem readPaint coordsFrom reachOf partsOf linesFrom lineReach absOf empty meet maxZ minZ noBox fillReach noArea outerOf floorOf ceilOf ofBits round add sub mul ofInt lt le eq ne neg toSigned toUnsigned
+ceilings = (refl, refl, refl, refl, refl, refl, refl, refl, refl, refl, refl)

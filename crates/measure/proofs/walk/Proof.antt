@@ -16,23 +16,16 @@ abbrev μ-loop : tie.MeasureT-loop
 u16-at-requires : tie.Need-u16-at-requires Inv-loop μ-loop
 u16-at-requires c κs = tt
 
-canvas-of-requires : tie.Need-canvas-of-requires Inv-loop μ-loop
-canvas-of-requires c κs = tt
-
-u16-at-requires-2 : tie.Need-u16-at-requires-2 Inv-loop μ-loop
-u16-at-requires-2 c κs = tt
-
-first-state-requires : tie.Need-first-state-requires Inv-loop μ-loop
-first-state-requires c κs = tt
+start-state-requires : tie.Need-start-state-requires Inv-loop μ-loop
+start-state-requires c κs = tt
 
 loop-holds : tie.Need-loop-holds Inv-loop μ-loop
 loop-holds c =
-    let a = c .before .before .before .before .before in
-    rw (c .first-state .ensures, c .before .u16-at2 .ensures .0, c .before .before .canvas-of .ensures)
-    (walking-first (a .args .s .now) (a .pre) (c .before .before .before .u16-at .result) (c .before .before .before .u16-at .ensures .0))
+    let a = c .before .before .before in
+    rw (c .start-state .ensures) (walking-first (a .args .s .now) (a .pre) (c .before .u16-at .result) (c .before .u16-at .ensures .0))
 
 cast-part-at : tie.Need-cast-part-at Inv-loop μ-loop
-cast-part-at c = record { fits = omega (arith, c .before .before .before .before .before .u16-at .ensures .1) }
+cast-part-at c = record { fits = omega (arith, c .before .before .before .u16-at .ensures .1) }
 
 part-at-requires : tie.Need-part-at-requires Inv-loop μ-loop
 part-at-requires c κs = tt
@@ -84,12 +77,12 @@ clipped-requires c κs = tt
 cells-requires : tie.Need-cells-requires Inv-loop μ-loop
 cells-requires c κs =
     let l = c .before .before .before .before .before .before .before .before .before .before .before .before in
-    rw (c .clipped .ensures) (small (l .before .before .before .before .before .before .args .s .now) (l .loop .k) (l .loop .canvas) (l .loop .inv .stands) (c .before .before .reach-of .result))
+    rw (c .clipped .ensures) (small (l .before .before .before .before .args .s .now) (l .loop .k) (l .loop .canvas) (l .loop .inv .stands) (c .before .before .reach-of .result))
 
 add-pixels : tie.Need-add-pixels Inv-loop μ-loop
 add-pixels c =
     let l = c .before .before .before .before .before .before .before .before .before .before .before .before .before in
-    let u = l .before .before .before .before .u16-at in
+    let u = l .before .before .u16-at in
     omega (arith, c .cells .ensures .1, u .ensures .1, l .loop .inv .low)
 
 add-k : tie.Need-add-k Inv-loop μ-loop
@@ -106,8 +99,8 @@ loop-again c =
     let p = t .before .before .part-at .ensures .bytes in
     let m = t .before .before .before in
     let l = m .before in
-    let u = l .before .before .before .before .u16-at in
-    let a = l .before .before .before .before .before .before in
+    let u = l .before .before .u16-at in
+    let a = l .before .before .before .before in
     let i = rw p at (sym (t .is-shape .ensures) ∙ o .before .before .if1 .taken) in
     let met = c .cells .ensures in
     rw (r .before .before .larger .ensures)
@@ -144,8 +137,8 @@ loop-again-2 c =
     let p = t .before .before .part-at .ensures .bytes in
     let m = t .before .before .before in
     let l = m .before in
-    let u = l .before .before .before .before .u16-at in
-    let a = l .before .before .before .before .before .before in
+    let u = l .before .before .u16-at in
+    let a = l .before .before .before .before in
     let i = rw p at (sym (t .is-shape .ensures) ∙ c .before .before .before .if1 .left) in
     rw (c .larger2 .ensures, c .before .state-after .ensures, p)
     (walking-other (a .args .s .now) (a .pre) (u .result) (u .ensures .0) (l .loop .canvas) (l .loop .words) (l .loop .most) (l .loop .pixels) (l .loop .k) (l .loop .inv)
@@ -154,8 +147,8 @@ loop-again-2 c =
 returns : tie.Need-returns Inv-loop μ-loop
 returns c =
     let l = c .before in
-    let s = l .before .before .before .before .before .before .args .s .now in
-    walking-end s (l .before .before .before .before .u16-at .result) (l .loop .canvas) (l .loop .words) (l .loop .most) (l .loop .pixels) (l .loop .k) (l .loop .inv) (c .loop-test .left)
+    let s = l .before .before .before .before .args .s .now in
+    walking-end s (l .before .before .u16-at .result) (l .loop .canvas) (l .loop .words) (l .loop .most) (l .loop .pixels) (l .loop .k) (l .loop .inv) (c .loop-test .left)
 
 pub walk-spec : {M : Type 1} → statement M
 walk-spec =
@@ -164,9 +157,7 @@ walk-spec =
     Inv-loop
     μ-loop
     u16-at-requires
-    canvas-of-requires
-    u16-at-requires-2
-    first-state-requires
+    start-state-requires
     loop-holds
     cast-part-at
     part-at-requires
