@@ -76,7 +76,10 @@ struct maldjupp_reply {
  * polygon the box around its points, rounded outward, with a pixel more on every side; of a polyline the smallest box around those of its
  * lines. It is empty where such a box has no pixel, as that of a line may by a negative width; and for a fill or stroke whose rectangle has a
  * width or height of 0 or less, a stroke or shadow of alpha 0, a shadow whose blur is 0 or less, and a polygon of under three points or with
- * over 4,000,000 pixels in its box. */
+ * over 4,000,000 pixels in its box.
+ *
+ * The clip in force at an item is the whole canvas at first, then what the pushes and pops before the item make of it. The box and the ceiling of
+ * a patch take each reach as cut by it (maldjupp_patch). */
 
 /* What painting a sheet takes. Refused, the last three are 0. */
 struct maldjupp_room {
@@ -96,17 +99,20 @@ struct maldjupp_room maldjupp_measure(const uint8_t *sheet, size_t bytes);
 struct maldjupp_reply maldjupp_paint(const uint8_t *sheet, size_t bytes, size_t pitch, uint32_t *px, size_t pixels, float *scratch, size_t words);
 
 /* Patches pixels that show the old sheet to the new one. The two may differ in up to 32 shapes. Scratch is what the new sheet
- * needs; maldjupp_measure tells how many words. Accepted, the box is the smallest around these shapes, old and new, on the canvas, and no
- * pixel outside it is altered; the pixels are those that painting the new sheet gives, and the new sheet is the old one of the next patch.
- * Refused, nothing is altered, and the old sheet stays the old one. What a sheet is refused for comes first, the old one before the new one; then
- * 10, 14, 15, 8 and 9, in this order.
+ * needs; maldjupp_measure tells how many words. Accepted, the box is the smallest around the reaches of these shapes, old and new, each cut by
+ * the clip in force at its item, and no pixel outside it is altered; the pixels are those that painting the new sheet gives, and the new sheet
+ * is the old one of the next patch. Refused, nothing is altered, and the old sheet stays the old one. What a sheet is refused for comes first,
+ * the old one before the new one; then 10, 14, 15, 8 and 9, in this order.
+ *
+ * A polyline's reach is one box, and is cut as one. A reach of which its clip leaves no pixel adds nothing to the box: where that is so of all,
+ * the box is four zeros, as where nothing differs, and no pixel is altered.
  *
  * Pitch and `pixels` are those of the painting. Another pitch with the same words lent is refused: by 15 where it is outside the width to 4,096,
  * else by 8, since it times the height is another number.
  *
- * A ceiling to plan with, proved of every patch: `steps` is at most the area of the box times the number of shapes in the new sheet whose reach
- * shares a pixel with the box, a polyline standing once for each of its lines whose reach does; `grounded` is at most the area, and an empty
- * box has 0 for both. */
+ * A ceiling to plan with, proved of every patch: `steps` is at most the area of the box times the number of shapes in the new sheet whose reach,
+ * cut by the clip in force at the shape, shares a pixel with the box, a polyline standing once for each of its lines whose reach, cut so, does;
+ * `grounded` is at most the area, and an empty box has 0 for both. */
 struct maldjupp_reply maldjupp_patch(const uint8_t *old_sheet, size_t old_bytes, const uint8_t *new_sheet, size_t new_bytes,
                                      size_t pitch, uint32_t *px, size_t pixels, float *scratch, size_t words);
 
