@@ -27,6 +27,8 @@ const POLYLINE: u8 = 8;
 /// empty where such a box has no pixel, as that of a line may by a negative width; and for a fill or stroke whose rectangle has a width or
 /// height of 0 or less, a stroke or shadow of alpha 0, a shadow whose blur is 0 or less, and a polygon of under three points or with over
 /// 4,000,000 pixels in its box.
+///
+/// The box and the ceiling of a patch take it as cut by the clip in force at the shape ([`Ticket::patch`](crate::Ticket::patch)).
 #[derive(Clone, Debug, PartialEq)]
 pub enum Shape {
     /// A filled rectangle with rounded corners.
@@ -83,8 +85,8 @@ pub enum Shape {
     /// Lines with round ends from point to point, one after the other; none under two points.
     ///
     /// A joint is blended by both of its lines, so that with an alpha under 255 it shows; it takes a step for each. The box of a patch is
-    /// around the whole polyline, old and new, however little of it differs. A [`Shape::Line`] for each line gives the same pixels, in a
-    /// painting as many steps, and in a patch smaller boxes.
+    /// around the whole polyline, old and new, however little of it differs; a clip cuts it as one box. A [`Shape::Line`] for each line gives
+    /// the same pixels, in a painting as many steps, and in a patch smaller boxes.
     ///
     /// ```
     /// use maldjupp::{Color, IRect, Pt, Shape, SheetBuilder, Ticket};

@@ -60,7 +60,8 @@ pub type FramedTicket<'a> = Ticket<&'a mut [u32]>;
 /// What an accepted painting or patch altered: where, and how busy it was.
 #[derive(Clone, Copy, Debug, PartialEq, Eq, Default)]
 pub struct Altered {
-    /// The box outside which no pixel was altered: of a painting the whole canvas, of a patch the smallest around the shapes that differ.
+    /// The box outside which no pixel was altered: of a painting the whole canvas, of a patch the smallest around the reaches of the shapes
+    /// that differ, old and new, each cut by the clip in force at it ([`Ticket::patch`]); empty, four zeros, where that leaves no pixel.
     pub area: IRect,
     /// How many steps altered a pixel of the box. A step is one shape of the sheet at one pixel; a polyline takes one step a line at each
     /// pixel, each line on what the one before left, so that a joint may count twice. It alters the pixel where its value, all 32 bits,
@@ -116,9 +117,27 @@ impl<P: AsRef<[u32]> + AsMut<[u32]>> Ticket<P> {
     /// Patches the ticket to a new sheet, which may be any bytes, and returns what was altered. Up to 32 shapes may differ. Refused, the
     /// ticket stays as it is.
     ///
+    /// The box is the smallest around the reaches of the shapes that differ, old and new ([`Shape`]), each cut by the clip in force at it: the
+    /// whole canvas at first, then what the pushes and pops before the shape make of it. A polyline's reach is one box, and is cut as one. A
+    /// reach of which its clip leaves no pixel adds nothing: where that is so of all, the box is empty, as where nothing differs, and no pixel
+    /// is altered.
+    ///
+    /// ```
+    /// use maldjupp::{Color, IRect, Rect, Shape, SheetBuilder, Ticket};
+    /// let band = |colour: Color| Shape::fill_rect(Rect::new(0.0, 20.0, 640.0, 12.0), colour);
+    /// let mut b = SheetBuilder::new(640, 400, Color::WHITE)?;
+    /// b.push_clip(Rect::new(48.0, 0.0, 24.0, 400.0))?;
+    /// let index = b.add(&band(Color::rgb(184, 115, 51)))?;
+    /// b.pop_clip()?;
+    /// let mut ticket = Ticket::paint(&b)?;
+    /// // The band reaches from side to side; its clip leaves a column of it.
+    /// assert_eq!(ticket.replace(index, band(Color::rgb(201, 174, 93)))?.area, IRect::new(48, 20, 72, 32));
+    /// # Ok::<(), Box<dyn std::error::Error>>(())
+    /// ```
+    ///
     /// A ceiling to plan with, proved of every patch: [`Altered::steps`] is at most the area of the box times the number of shapes in the new
-    /// sheet whose reach shares a pixel with the box, a polyline standing once for each of its lines whose reach does; [`Altered::grounded`]
-    /// is at most the area, and an empty box has 0 for both. A shape's reach is its box before any clip ([`Shape`]).
+    /// sheet whose reach, cut by the clip in force at the shape, shares a pixel with the box, a polyline standing once for each of its lines
+    /// whose reach, cut so, does; [`Altered::grounded`] is at most the area, and an empty box has 0 for both.
     pub fn patch(&mut self, new: Vec<u8>) -> Result<Altered, Refused> {
         let mut patch = |scratch: &mut [f32]| answer(raw::patch(&self.sheet, &new, self.pitch, self.px.as_mut(), scratch));
         let mut altered = patch(&mut self.scratch);
@@ -296,7 +315,7 @@ mod tests {
         let painted = ticket.altered();
         ticket.patch(old.clone()).unwrap();
         let patched = ticket.patch(new.clone()).unwrap();
-        assert_eq!((painted.area, patched.area), (IRect::new(0, 0, 24, 16), IRect::new(3, 10, 13, 13)));
+        assert_eq!((painted.area, patched.area), (IRect::new(0, 0, 24, 16), IRect::new(3, 10, 13, 12)));
         assert!(painted.steps > patched.steps && patched.steps > 0);
         for held in (0..50).map(any_words) {
             let not_ground = |area: IRect| {
