@@ -156,8 +156,8 @@ fn join(a: IRect, b: IRect) -> IRect {
     }
 }
 
-/// The box around a polyline, by kash-ui's padded rectangle of each line, on the canvas.
-fn reach(points: &[Pt], width: f32) -> IRect {
+/// The box around a polyline, by kash-ui's padded rectangle of each line, within a clip.
+fn reach(points: &[Pt], width: f32, clip: IRect) -> IRect {
     let pad = width * 0.5 + 1.0;
     let line = |ends: &[Pt]| {
         let (x, y) = (ends[0].x.min(ends[1].x) - pad, ends[0].y.min(ends[1].y) - pad);
@@ -165,15 +165,16 @@ fn reach(points: &[Pt], width: f32) -> IRect {
         IRect::new(x.floor() as i32, y.floor() as i32, (x + w).ceil() as i32, (y + h).ceil() as i32)
     };
     let all = points.windows(2).map(line).fold(IRect::default(), join);
-    join(IRect::default(), IRect::new(all.x0.max(0), all.y0.max(0), all.x1.min(W), all.y1.min(H)))
+    join(IRect::default(), IRect::new(all.x0.max(clip.x0), all.y0.max(clip.y0), all.x1.min(clip.x1), all.y1.min(clip.y1)))
 }
 
+/// As far as the clip in force goes, which cuts the box around all lines of a polyline.
 #[test]
 fn a_patch_has_the_box_around_old_and_new() {
     let mut random = Random(6);
-    let (mut patched, mut empty) = (0, 0);
+    let (mut patched, mut empty, mut cut) = (0, 0, 0);
     for _ in 0..100 {
-        let (mut b, _) = begun(Rect { w: 30.0, h: 30.0, ..random.rect() });
+        let (mut b, canvas) = begun(Rect { w: 30.0, h: 30.0, ..random.rect() });
         let (index, mut old) = (b.polyline(&[], 1.0, RED).unwrap(), IRect::default());
         b.pop_clip().unwrap();
         b.add(&random.shape()).ok();
@@ -181,14 +182,15 @@ fn a_patch_has_the_box_around_old_and_new() {
         for _ in 0..20 {
             let (points, width) = (random.points(), random.float() / 4.0);
             if let Ok(Altered { area, .. }) = ticket.replace(index, Shape::polyline(&points, width, random.color())) {
-                let new = reach(&points, width);
+                let new = reach(&points, width, canvas.clip());
                 assert_eq!(area, join(old, new));
                 assert_eq!(ticket.px(), Ticket::paint(&ticket.builder()).unwrap().px());
                 (patched, empty, old) = (patched + 1, empty + area.is_empty() as u32, new);
+                cut += (new != reach(&points, width, canvas.bounds())) as u32;
             }
         }
     }
-    assert!(patched > 1000 && empty > 10, "{patched} {empty}");
+    assert!(patched > 1000 && empty > 10 && cut > 100, "{patched} {empty} {cut}");
 }
 
 /// Longer and longer, by a fill and back, and away.
