@@ -1,5 +1,6 @@
-/* Measures and paints a small ticket, patches it, draws it call by call, counts steps, does the same within a wider frame, lets a trace grow,
- * takes every small clip order, and checks every answer. The counts are worked out by hand, or by the pixels that differ.
+/* Measures and paints a small ticket, patches it, draws it call by call, counts steps, does the same within a wider frame, patches shapes under
+ * clips, lets a trace grow, takes every small clip order, and checks every answer. The counts are worked out by hand, or by the pixels that
+ * differ.
  *
  *   cc -std=c11 -Wall -Wextra -Werror -I bindings/c bindings/c/example.c -L target/staticlib -lmaldjupp -o example */
 #include "maldjupp.h"
@@ -105,6 +106,10 @@ static float row(size_t i) { return 3 + (float)(i * 7 % 10); }
 /* A width of 2, and an ink of alpha 128, with which joints show. */
 static void pen(struct sheet *s) { number(s, 2), byte(s, 36), byte(s, 66), byte(s, 104), byte(s, 128); }
 
+static void line(struct sheet *s, float ax, float ay, float bx, float by) {
+    word(s, 5), number(s, ax), number(s, ay), number(s, bx), number(s, by), pen(s), end(s);
+}
+
 /* Paper with a trace of so many points, as one polyline. */
 static size_t trace(size_t points, uint8_t out[MOST]) {
     struct sheet s = {.length = 0};
@@ -119,9 +124,7 @@ static size_t trace(size_t points, uint8_t out[MOST]) {
 static size_t trace_lines(size_t points, uint8_t out[MOST]) {
     struct sheet s = {.length = 0};
     fill(&s, 1, 1, 22, 14, 0xFDFCF8);
-    for (size_t i = 1; i < points; i++) {
-        word(&s, 5), number(&s, column(i - 1)), number(&s, row(i - 1)), number(&s, column(i)), number(&s, row(i)), pen(&s), end(&s);
-    }
+    for (size_t i = 1; i < points; i++) line(&s, column(i - 1), row(i - 1), column(i), row(i));
     return bytes_of(&s, W, H, 0xDEDBD2, out);
 }
 
@@ -618,6 +621,136 @@ static void bad_pitches(void) {
     check("refused, nothing is altered", is_all(frame, PITCH, W, 0) && kept(frame, PITCH, W));
 }
 
+/* A band across all columns, under three of them; below it a bar without a clip. */
+static size_t banded(uint32_t band, uint32_t bar, uint8_t out[MOST]) {
+    struct sheet s = {.length = 0};
+    push(&s, 6, 0, 3, H), fill(&s, 0, 4, W, 2, band), pop(&s), fill(&s, 2, 10, 20, 3, bar);
+    return bytes_of(&s, W, H, 0xDEDBD2, out);
+}
+
+/* Bands under two clips, under the outer one after a pop, and under none after another. */
+static size_t nested(uint32_t inner, uint32_t outer, uint32_t none, uint8_t out[MOST]) {
+    struct sheet s = {.length = 0};
+    push(&s, 4, 0, 8, H), push(&s, 8, 2, 12, 7), fill(&s, 0, 0, W, 11, inner);
+    pop(&s), fill(&s, 0, 12, W, 2, outer);
+    pop(&s), fill(&s, 0, 14, W, 2, none);
+    return bytes_of(&s, W, H, 0xDEDBD2, out);
+}
+
+/* Paper; a square under six columns at the left; a triangle under those and six others, which share no pixel. */
+static size_t hiding(uint32_t paper, float square, uint32_t rgb, uint8_t out[MOST]) {
+    struct sheet s = {.length = 0};
+    fill(&s, 1, 1, 22, 14, paper);
+    push(&s, 0, 0, 6, H), fill(&s, square, 4, 6, 6, rgb), push(&s, 12, 0, 6, H), triangle(&s, 2, 3, 4, rgb);
+    return bytes_of(&s, W, H, 0xDEDBD2, out);
+}
+
+/* A polyline down the left side and along the foot to a column, under a clip that shows neither of its lines. */
+static size_t cornered(float last, uint8_t out[MOST]) {
+    struct sheet s = {.length = 0};
+    push(&s, 8, 4, 6, 6), word(&s, 8 | 3 << 16), pen(&s);
+    number(&s, 2), number(&s, 2), number(&s, 2), number(&s, 13), number(&s, last), number(&s, 13), end(&s);
+    return bytes_of(&s, W, H, 0xDEDBD2, out);
+}
+
+/* The same, as lines. */
+static size_t cornered_lines(float last, uint8_t out[MOST]) {
+    struct sheet s = {.length = 0};
+    push(&s, 8, 4, 6, 6), line(&s, 2, 2, 2, 13), line(&s, 2, 13, last, 13);
+    return bytes_of(&s, W, H, 0xDEDBD2, out);
+}
+
+/* Shapes in several places, under one, two and no clips; with another number most are elsewhere, and some hidden. */
+static size_t wandering(size_t k, uint8_t out[MOST]) {
+    struct sheet s = {.length = 0};
+    float x = (float)(k * 7 % 31) - 4, y = (float)(k * 5 % 19) - 2;
+    fill(&s, 1, 1, 22, 14, k % 6 == 0 ? brass : 0xFDFCF8);
+    push(&s, 3, 0, 4, H), fill(&s, x, y, 9, 3, copper), push(&s, 5, 6, 9, 9), fill(&s, y, x, 8, 8, brass);
+    pop(&s), fill(&s, 0, y, W, 1, 0x3A6292), pop(&s), push(&s, 15, 2, 5, 12);
+    word(&s, 8 | 3 << 16), pen(&s), number(&s, x), number(&s, 2), number(&s, 12), number(&s, y), number(&s, 22), number(&s, x), end(&s);
+    return bytes_of(&s, W, H, 0xDEDBD2, out);
+}
+
+/* Whether two lists of pixels agree outside the box of an answer. */
+static int same_outside(struct maldjupp_reply r, const uint32_t *a, const uint32_t *b) {
+    uint64_t count = 0;
+    for (int32_t y = 0; y < H; y++) {
+        for (int32_t x = 0; x < W; x++) count += (x < r.x0 || x >= r.x1 || y < r.y0 || y >= r.y1) && a[y * W + x] != b[y * W + x];
+    }
+    return count == 0;
+}
+
+/* Patches of shapes under clips: the box is around their reaches, each cut by the clip at its place. */
+static void columns(void) {
+    enum { PATCHES = 60 };
+    static uint8_t old[MOST], new[MOST];
+    static uint32_t px[W * H], fresh[W * H], before[W * H];
+    float none = 0;
+    size_t n = banded(copper, copper, old), m = banded(brass, copper, new);
+    maldjupp_paint(old, n, W, px, W * H, &none, 0);
+    check("a band under a column: the column's box", is_altered(maldjupp_patch(old, n, new, m, W, px, W * H, &none, 0), 6, 4, 9, 6, 6, 6));
+    lay(frame, FRAME), maldjupp_paint(old, n, PITCH, frame, FRAME, &none, 0);
+    check("the same within a frame", is_altered(maldjupp_patch(old, n, new, m, PITCH, frame, FRAME, &none, 0), 6, 4, 9, 6, 6, 6));
+    check("the same pixels, the words beside them kept", shows(frame, PITCH, px) && kept(frame, PITCH, W));
+    memcpy(old, new, n = m), m = banded(brass, brass, new);
+    check("after the pop: the whole bar", is_altered(maldjupp_patch(old, n, new, m, W, px, W * H, &none, 0), 2, 10, 22, 13, 60, 60));
+    memcpy(old, new, n = m), m = banded(copper, copper, new);
+    check("both: the column and the bar", is_altered(maldjupp_patch(old, n, new, m, W, px, W * H, &none, 0), 2, 4, 22, 13, 66, 66));
+    maldjupp_paint(new, m, W, fresh, W * H, &none, 0);
+    check("the pixels are those of a fresh painting", memcmp(px, fresh, sizeof px) == 0 && px[4 * W + 8] == copper && px[4 * W + 9] == 0xDEDBD2);
+
+    n = nested(copper, copper, copper, old), m = nested(brass, copper, copper, new), maldjupp_paint(old, n, W, px, W * H, &none, 0);
+    check("under two clips: what both leave", is_altered(maldjupp_patch(old, n, new, m, W, px, W * H, &none, 0), 8, 2, 12, 9, 28, 28));
+    memcpy(old, new, n = m), m = nested(brass, brass, copper, new);
+    check("after a pop: what the outer one leaves", is_altered(maldjupp_patch(old, n, new, m, W, px, W * H, &none, 0), 4, 12, 12, 14, 16, 16));
+    memcpy(old, new, n = m), m = nested(brass, brass, brass, new);
+    check("after another: all columns", is_altered(maldjupp_patch(old, n, new, m, W, px, W * H, &none, 0), 0, 14, W, H, 48, 48));
+
+    n = cornered(20, old), m = cornered(21, new), maldjupp_paint(old, n, W, px, W * H, &none, 0);
+    check("a polyline is cut as one box", is_altered(maldjupp_patch(old, n, new, m, W, px, W * H, &none, 0), 8, 4, 14, 10, 0, 0));
+    n = cornered_lines(20, old), m = cornered_lines(21, new);
+    check("its lines one by one: hidden", is_altered(maldjupp_patch(old, n, new, m, W, px, W * H, &none, 0), 0, 0, 0, 0, 0, 0));
+
+    size_t patched = 0, alike = 0;
+    n = wandering(0, old), maldjupp_paint(old, n, W, px, W * H, &none, 0);
+    for (size_t k = 1; k <= PATCHES; k++) {
+        m = wandering(k, new), memcpy(before, px, sizeof px);
+        struct maldjupp_reply r = maldjupp_patch(old, n, new, m, W, px, W * H, &none, 0);
+        maldjupp_paint(new, m, W, fresh, W * H, &none, 0), patched += r.number == MALDJUPP_ACCEPTED && same_outside(r, before, px);
+        memcpy(old, new, n = m), alike += memcmp(px, fresh, sizeof px) == 0;
+    }
+    check("a list of patches: none alters a pixel outside its box", patched == PATCHES);
+    check("after each, the pixels are those of a fresh painting", alike == PATCHES);
+}
+
+/* Shapes that their clips hide: an empty box, and the patches after it. */
+static void hidden(void) {
+    enum { WORDS = 50 };
+    static uint8_t old[MOST], new[MOST];
+    static uint32_t px[W * H], fresh[W * H], before[W * H];
+    static float scratch[WORDS + 1], zeros[WORDS];
+    size_t n = hiding(0xFDFCF8, 10, copper, old), m = hiding(0xFDFCF8, 10, brass, new);
+    maldjupp_paint(old, n, W, px, W * H, scratch, WORDS), memcpy(before, px, sizeof px);
+    for (size_t i = 0; i <= WORDS; i++) scratch[i] = 7;
+    check("hidden, a word of scratch too few: refused 9",
+          is_refused(maldjupp_patch(old, n, new, m, W, px, W * H, scratch, WORDS - 1), MALDJUPP_SCRATCH, 0) && scratch[0] == 7);
+    check("hidden: an empty box", is_altered(maldjupp_patch(old, n, new, m, W, px, W * H, scratch, WORDS), 0, 0, 0, 0, 0, 0));
+    check("no pixel is altered, the words needed are left 0",
+          memcmp(px, before, sizeof px) == 0 && memcmp(scratch, zeros, sizeof zeros) == 0 && scratch[WORDS] == 7);
+    maldjupp_paint(new, m, W, fresh, W * H, scratch, WORDS);
+    check("the pixels are those of a fresh painting", memcmp(px, fresh, sizeof px) == 0);
+    memcpy(old, new, n = m), m = hiding(brass, 10, brass, new);
+    check("another shape after it: its box", is_altered(maldjupp_patch(old, n, new, m, W, px, W * H, scratch, WORDS), 1, 1, 23, 15, 308, 308));
+    maldjupp_paint(new, m, W, fresh, W * H, scratch, WORDS);
+    check("the pixels are those of a fresh painting", memcmp(px, fresh, sizeof px) == 0);
+    memcpy(old, new, n = m), m = hiding(brass, 4, copper, new);
+    check("one comes into view: what is seen of it",
+          is_altered(maldjupp_patch(old, n, new, m, W, px, W * H, scratch, WORDS), 4, 4, 6, 10, 12 + 12, 12) && px[4 * W + 5] == copper);
+    memcpy(old, new, n = m), m = hiding(brass, 6, copper, new);
+    check("and leaves it: the same box", is_altered(maldjupp_patch(old, n, new, m, W, px, W * H, scratch, WORDS), 4, 4, 6, 10, 12, 12));
+    check("the pixels are those before it came", memcmp(px, fresh, sizeof px) == 0);
+}
+
 int main(void) {
     static uint8_t sheet[MOST];
     struct maldjupp_room room = maldjupp_measure(sheet, ticket(copper, 9, sheet));
@@ -635,6 +768,8 @@ int main(void) {
     counts();
     framed();
     bad_pitches();
+    columns();
+    hidden();
     traces();
     orders();
 
