@@ -139,8 +139,7 @@ fn changed_in(old: &[u8], new: &[u8], n: usize) -> Difference
     ensures { λ r. ⌜ r ≡ changedBy (canvas (sheetOf (now (new .entry)))) (changeFrom (now (old .entry)) (now (new .entry)) n 0 (startOf (now (new .entry)))) ⌝ }
 {
     let canvas = canvas_of(new);
-    let first = start_state(new);
-    let mut state = first;
+    let mut state = start_state(new);
     let mut area = IRect::new(0, 0, 0, 0);
     let mut count = 0;
     for k in 0..n {

@@ -21,7 +21,7 @@ use Rattle.geom.proofs.Bools.{and-both}
 use Rattle.redraw.specs.Drawing.{Item, push, pop, shape, Clips, only, popped, after, Step, withStep, steps}
 use Rattle.redraw.specs.Sheet.{Format, Lawful, Sheet, Reading, refused, read, Pair, Change, other, shapes, withPair, bothShapes, change, reaches, refuses, draws, few, tooMany, canvas, sameHeader, drawsUnless, lentNumber, lent, changeIn, patchBy, patchOf, patching}
 use Rattle.redraw.specs.Before.{wholeReaches, wholeBy, wholeOf, wholePatching, Narrower, as-refused, within, Unpushed, Smaller, AsBefore}
-use Rattle.redraw.proofs.Drawn.{Edited, none, keep, swap, edited}
+use Rattle.redraw.proofs.Drawn.{Edited, none, keep, swap, change-same, change-other, edited}
 
 never : _≡_ {A = ℕ} 0 1 → ⊥
 never z = omega arith
@@ -77,15 +77,12 @@ module _ {Shape : Type 0} (same : Item Shape → Item Shape → Bool) where
   own-steps [] [] c d l e = let q : [] ≡ l = cc in rw (← q) (done, done)
   own-steps [] (j ∷ s) c d l e = absurd (never cc)
   own-steps (i ∷ r) [] c d l e = absurd (never cc)
-  own-steps (i ∷ r) (j ∷ s) c d l e = go (same i j) e (own-steps r s (after i c) (after j d))
+  own-steps (i ∷ r) (j ∷ s) c d l e = go (same i j) refl (own-steps r s (after i c) (after j d))
     where
-      rest : Change Shape
-      rest = change same r s (after i c) (after j d)
-
-      go : (t : Bool) → cond t rest (bothShapes (c .clip) (d .clip) i j rest) ≡ shapes l → Own r s (after i c) (after j d) rest
+      go : (t : Bool) → same i j ≡ t → Own r s (after i c) (after j d) (change same r s (after i c) (after j d))
           → Found (olds l) (steps (i ∷ r) c) × Found (news l) (steps (j ∷ s) d)
-      go true q f = let o = f l q in (skip-item i (c .clip) (o .0), skip-item j (d .clip) (o .1))
-      go false q f = own-both i j r s c d rest f l q
+      go true p f = let o = f l (sym (change-same same i j r s c d p) ∙ e) in (skip-item i (c .clip) (o .0), skip-item j (d .clip) (o .1))
+      go false p f = own-both i j r s c d _ f l (sym (change-other same i j r s c d p) ∙ e)
 
 -- both shapes of each pair have one clip
 unfoldable pub OneClip : {Shape : Type 0} → List (Pair Shape) → Type 0

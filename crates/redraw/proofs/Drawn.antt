@@ -75,6 +75,16 @@ pub data Edited {Shape : Type 0} : List (Item Shape) → List (Item Shape) → C
   swap : (a b : Shape) {r s : List (Item Shape)} {c : Clips} {l : List (Pair Shape)} → Edited r s c l
       → Edited (shape a ∷ r) (shape b ∷ s) c ((record { under = c .clip; drawn = a }, record { under = c .clip; drawn = b }) ∷ l)
 
+-- one item more, that is the same in both, or differs: either way the clips of each list go on by its own item
+module _ {Shape : Type 0} (same : Item Shape → Item Shape → Bool) (i j : Item Shape) (r s : List (Item Shape)) (c d : Clips) where
+  pub change-same : same i j ≡ true → change same (i ∷ r) (j ∷ s) c d ≡ change same r s (after i c) (after j d)
+  unfolding change
+  change-same e = rw e
+
+  pub change-other : same i j ≡ false → change same (i ∷ r) (j ∷ s) c d ≡ bothShapes (c .clip) (d .clip) i j (change same r s (after i c) (after j d))
+  unfolding change
+  change-other e = rw e
+
 -- such lists have been read off by `change`
 module _ {Shape : Type 0} (same : Item Shape → Item Shape → Bool) (sound : (i j : Item Shape) → same i j ≡ true → i ≡ j) where
   with-pair : (a b : Shape) {r s : List (Item Shape)} (u : Clips) (c : Change Shape) (l : List (Pair Shape))
@@ -100,15 +110,11 @@ module _ {Shape : Type 0} (same : Item Shape → Item Shape → Bool) (sound : (
   edited [] [] u l e = let q : [] ≡ l = cc in rw (← q) none
   edited [] (j ∷ s) u l e = absurd (never cc)
   edited (i ∷ r) [] u l e = absurd (never cc)
-  edited (i ∷ r) (j ∷ s) u l e = go (same i j) refl e (edited r s)
+  edited (i ∷ r) (j ∷ s) u l e = go (same i j) refl (edited r s)
     where
-      rest : Change Shape
-      rest = change same r s (after i u) (after j u)
-
-      go : (t : Bool) → same i j ≡ t → cond t rest (bothShapes (u .clip) (u .clip) i j rest) ≡ shapes l
-          → ((w : Clips) (k : List (Pair Shape)) → change same r s w w ≡ shapes k → Edited r s w k) → Edited (i ∷ r) (j ∷ s) u l
-      go true p q f = rw (← sound i j p) (keep i (f (after i u) l (rw (← sound i j p) at q)))
-      go false p q f = both-shapes i j r s u l (f u) q
+      go : (t : Bool) → same i j ≡ t → ((w : Clips) (k : List (Pair Shape)) → change same r s w w ≡ shapes k → Edited r s w k) → Edited (i ∷ r) (j ∷ s) u l
+      go true p f = rw (← sound i j p) (keep i (f (after i u) l (rw (← sound i j p) at (sym (change-same same i j r s u u p) ∙ e))))
+      go false p f = both-shapes i j r s u l (f u) (sym (change-other same i j r s u u p) ∙ e)
 
 module _ (K : Kind) (x y : ℕ) where
   -- a step that does not meet the pixel leaves it
