@@ -3,24 +3,27 @@
 --     one-clip      "The clips of old and new sheet agree there, since pushes and pops do."
 --     smaller       numbers and items are those of before, and the box lies in the one of before
 --     as-before     a sheet without a push has the box of before
+--     fewer         the ceiling counts no more shapes than before
 -- Assumes nothing.
-use mathlib.Core.Bool.{Bool, true, false, cond}
+use mathlib.Core.Bool.{Bool, true, false, cond, true≢false}
 use mathlib.Core.List.{List, [], _∷_}
 use mathlib.Core.Path.{_≡_, refl, sym, ap, _∙_}
-use Prim.Native.Nat.{ℕ}
+use Prim.Native.Nat.{ℕ, _≤_}
 use native.Mathlib.Omega.{arith}
 use lib.Dec.{eqb}
 use lib.IntN.{ℤ}
 use lib.Signed.{leZ}
 use Rattle.geom.specs.declared.IRect.{IRect}
 use Rattle.geom.specs.Int.{maxZ, minZ}
-use Rattle.geom.specs.Box.{meet, joinAll, hull, Holds, HoldsAll, HoldsEach}
+use Rattle.geom.specs.Box.{meet, joinAll, hull, Holds, HoldsAll, HoldsEach, empty}
 use Rattle.geom.proofs.Int.{min-right}
-use Rattle.geom.proofs.Boxes.{in-meet, meet-left, meet-right, hull-smallest}
+use Rattle.geom.proofs.Boxes.{in-meet, meet-left, meet-right, holds-full, hull-smallest}
 use Rattle.geom.proofs.Bools.{and-both}
-use Rattle.redraw.specs.Drawing.{Item, push, pop, shape, Clips, only, popped, after, Step, withStep, steps}
+use Rattle.redraw.specs.Drawing.{Item, push, pop, shape, Clips, only, popped, after, Step, withStep, steps, Kind}
+use Rattle.draw.specs.Parts.{Part}
 use Rattle.redraw.specs.Sheet.{Format, Lawful, Sheet, Reading, refused, read, Pair, Change, other, shapes, withPair, bothShapes, change, reaches, refuses, draws, few, tooMany, canvas, sameHeader, drawsUnless, lentNumber, lent, changeIn, patchBy, patchOf, patching}
-use Rattle.redraw.specs.Before.{wholeReaches, wholeBy, wholeOf, wholePatching, Narrower, as-refused, within, Unpushed, Smaller, AsBefore}
+use Rattle.redraw.specs.Ceiling.{partsMeeting, shapesMeeting}
+use Rattle.redraw.specs.Before.{wholeParts, wholeMeeting, Fewer, wholeReaches, wholeBy, wholeOf, wholePatching, Narrower, as-refused, within, Unpushed, Smaller, AsBefore}
 use Rattle.redraw.proofs.Drawn.{Edited, none, keep, swap, change-same, change-other, edited}
 
 never : _≡_ {A = ℕ} 0 1 → ⊥
@@ -97,14 +100,14 @@ one-clip (swap a b e) = (refl, one-clip e)
 
 -- ---- the box by cut reaches lies in the box by whole ones
 
-module _ {Shape : Type 0} (reach : Shape → IRect) (frame : IRect) where
-  cut-within : (u b : IRect) → Holds (meet frame b) (meet frame (meet u b))
-  cut-within u b = record {
-    holds = λ x y e.
-        in-meet frame b x y
-        ∙ and-both (meet-left frame (meet u b) .holds x y e) (meet-right u b .holds x y (meet-right frame (meet u b) .holds x y e));
-  }
+cut-within : (frame u b : IRect) → Holds (meet frame b) (meet frame (meet u b))
+cut-within frame u b = record {
+  holds = λ x y e.
+      in-meet frame b x y
+      ∙ and-both (meet-left frame (meet u b) .holds x y e) (meet-right u b .holds x y (meet-right frame (meet u b) .holds x y e));
+}
 
+module _ {Shape : Type 0} (reach : Shape → IRect) (frame : IRect) where
   further : {a b c : IRect} → Holds a b → Holds b c → Holds a c
   further h k = record { holds = λ x y e. h .holds x y (k .holds x y e) }
 
@@ -112,7 +115,7 @@ module _ {Shape : Type 0} (reach : Shape → IRect) (frame : IRect) where
   unfolding HoldsAll reaches wholeReaches
   all-cut big [] h = tt
   all-cut big (p ∷ l) h =
-      (further (h .0) (cut-within (p .0 .under) (reach (p .0 .drawn))), (further (h .1 .0) (cut-within (p .1 .under) (reach (p .1 .drawn))), all-cut big l (h .1 .1)))
+      (further (h .0) (cut-within frame (p .0 .under) (reach (p .0 .drawn))), (further (h .1 .0) (cut-within frame (p .1 .under) (reach (p .1 .drawn))), all-cut big l (h .1 .1)))
 
   hull-within : (l : List (Pair Shape)) → Holds (hull frame (wholeReaches reach l)) (hull frame (reaches reach l))
   hull-within l =
@@ -222,3 +225,25 @@ module _ (F : Format) (law : Lawful F) where
       go : (r : Reading (F .kind .Shape)) → patchOf F r (read s) pitch pl sl ≡ wholeOf F r (read s) pitch pl sl
       go (refused n k) = refl
       go (read a) = rw (by-unpushed a s pitch pl sl u (changeIn F (canvas s) a s) refl)
+
+-- ---- the ceiling
+
+part-fewer : (box u b : IRect) → cond (empty (meet box (meet u b))) 0 1 ≤ cond (empty (meet box b)) 0 1
+part-fewer box u b = go (empty (meet box (meet u b))) (empty (meet box b)) (λ e. holds-full (meet box b) (meet box (meet u b)) (cut-within box u b) e)
+  where
+    go : (s t : Bool) → (s ≡ false → t ≡ false) → cond s 0 1 ≤ cond t 0 1
+    go true t h = omega arith
+    go false true h = absurd (true≢false (h refl))
+    go false false h = omega arith
+
+parts-fewer : (box u : IRect) (l : List Part) → partsMeeting box u l ≤ wholeParts box l
+unfolding partsMeeting wholeParts
+parts-fewer box u [] = omega arith
+parts-fewer box u (a ∷ l) = omega (arith, part-fewer box u (a .reach), parts-fewer box u l)
+
+pub fewer : (K : Kind) → Fewer K
+unfolding shapesMeeting wholeMeeting
+fewer K box [] c = omega arith
+fewer K box (push s b ∷ r) c = fewer K box r _
+fewer K box (pop s ∷ r) c = fewer K box r _
+fewer K box (shape a ∷ r) c = omega (arith, parts-fewer box (c .clip) (K .parts a), fewer K box r c)

@@ -1,13 +1,15 @@
--- SMALLER BOXES UNDER A CLIP (document 02, 2026-09): patching by the rule of before, whose box was around whole reaches, and what is claimed of
--- it. Proved in proofs/Cuts; no call cites it.
+-- SMALLER BOXES UNDER A CLIP (document 02, 2026-09): patching and its ceiling by the rule of before, which knew whole reaches alone, and what is
+-- claimed of it. Proved in proofs/Cuts; no call cites it.
 use mathlib.Core.Bool.{cond}
 use mathlib.Core.List.{List, [], _∷_}
 use mathlib.Core.Path.{_≡_}
-use Prim.Native.Nat.{ℕ}
+use Prim.Native.Nat.{ℕ, _+_, _≤_}
 use Rattle.geom.specs.declared.IRect.{IRect}
-use Rattle.geom.specs.Box.{hull, Holds}
-use Rattle.redraw.specs.Drawing.{Item, push, pop, shape}
+use Rattle.geom.specs.Box.{meet, empty, hull, Holds}
+use Rattle.draw.specs.Parts.{Part}
+use Rattle.redraw.specs.Drawing.{Item, push, pop, shape, Clips, Kind}
 use Rattle.redraw.specs.Sheet.{Format, Sheet, Reading, refused, read, Pair, Change, other, shapes, Outcome, refuses, draws, few, tooMany, canvas, sameHeader, lent, changeIn, patching}
+use Rattle.redraw.specs.Ceiling.{shapesMeeting}
 
 -- "shapes clipped to a narrow column still report their full reach": the boxes of the pairs, whatever their clips
 unfoldable pub wholeReaches : {Shape : Type 0} → (Shape → IRect) → List (Pair Shape) → List IRect
@@ -41,6 +43,22 @@ Unpushed [] = Unit {0}
 Unpushed (push s b ∷ r) = ⊥
 Unpushed (pop s ∷ r) = Unpushed r
 Unpushed (shape a ∷ r) = Unpushed r
+
+-- "the number of shapes in the new sheet whose reach meets the reported box", whatever their clips
+unfoldable pub wholeParts : IRect → List Part → ℕ
+wholeParts box [] = 0
+wholeParts box (a ∷ l) = cond (empty (meet box (a .reach))) 0 1 + wholeParts box l
+
+module _ (K : Kind) where
+  unfoldable pub wholeMeeting : IRect → List (Item (K .Shape)) → ℕ
+  wholeMeeting box [] = 0
+  wholeMeeting box (push s b ∷ r) = wholeMeeting box r
+  wholeMeeting box (pop s ∷ r) = wholeMeeting box r
+  wholeMeeting box (shape a ∷ r) = wholeParts box (K .parts a) + wholeMeeting box r
+
+  -- the ceiling is lower, if anything: for any box, items and clips no more shapes are counted
+  abbrev pub Fewer : Type 0
+  Fewer = (box : IRect) (items : List (Item (K .Shape))) (c : Clips) → shapesMeeting K box items c ≤ wholeMeeting box items
 
 module _ (F : Format) where
   -- for any bytes, pitch and lengths of px and scratch: numbers and items stay as they were, and the box lies in the one of before

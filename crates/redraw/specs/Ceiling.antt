@@ -1,4 +1,5 @@
--- A CEILING ON PATCH WORK (document 02, 2026-06; "The counts of 2026-06 use it too", the reach of 2026-09), over any format; at the sheet of document 01 it is proved in replay proofs/Theorem.
+-- A CEILING ON PATCH WORK (document 02, 2026-06; by the reach of 2026-09: "The counts of 2026-06 use it too"), over any format; at the sheet of
+-- document 01 it is proved in replay proofs/Theorem.
 use mathlib.Core.Bool.{true, cond}
 use mathlib.Core.List.{List, [], _∷_}
 use mathlib.Core.Path.{_≡_}

@@ -4,7 +4,7 @@ pub mod Drawing
 pub mod Sheet
 pub mod Counts
 pub mod Calls
-pub mod Before
 pub mod Ceiling
+pub mod Before
 pub mod Sums
 pub mod Measure

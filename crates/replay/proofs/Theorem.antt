@@ -1,9 +1,9 @@
 -- Demand 3 holds, and so do what the counts tell, the ceiling on patch work, and what is claimed of boxes under a clip. Assumes nothing.
-use Rattle.items.specs.Format.{format, zeroWord}
+use Rattle.items.specs.Format.{kind, format, zeroWord}
 use Rattle.items.proofs.Lawful.{lawful}
 use Rattle.redraw.specs.Calls.{Busy}
 use Rattle.redraw.specs.Ceiling.{PatchCeiling}
-use Rattle.redraw.specs.Before.{Smaller, AsBefore}
+use Rattle.redraw.specs.Before.{Fewer, Smaller, AsBefore}
 use Rattle.redraw.proofs.Lists as lists
 use Rattle.redraw.proofs.Busy as counts
 use Rattle.redraw.proofs.Ceilings as ceilings
@@ -24,3 +24,6 @@ smaller = cuts.smaller format
 
 pub as-before : AsBefore format
 as-before = cuts.as-before format lawful
+
+pub fewer : Fewer kind
+fewer = cuts.fewer kind
