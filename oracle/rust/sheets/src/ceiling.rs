@@ -1,8 +1,9 @@
-//! The ceiling that change request 2026-06 sets on what an accepted patch counts: from its new sheet and the box that it reports.
-use crate::{Answer, Sheet};
+//! The ceiling that change request 2026-06 sets on what an accepted patch counts: from its new sheet and the box that it reports. Reaches are cut
+//! by the clip in force at their item, as change request 2026-09 has it.
+use crate::{Answer, Item, Sheet};
 use kash::geom::IRect;
 
-/// The shapes of a sheet whose reach meets a box, a chain standing once for each of its lines whose reach does; and the box's area.
+/// The shapes of a sheet whose cut reach meets a box, a chain standing once for each of its lines whose cut reach does; and the box's area.
 #[derive(Clone, Copy, Debug, PartialEq)]
 pub struct Ceiling {
     pub meeting: u64,
@@ -20,10 +21,16 @@ pub fn meets(reach: IRect, reported: IRect) -> bool {
     area(reach.intersect(&reported)) > 0
 }
 
-/// How many reaches of a sheet's items, before any clip, meet a box. The reach of a push or a pop is empty.
+/// How many reaches of a sheet's items meet a box, each cut by a clip that its item is given. The reach of a push or a pop is empty.
+pub fn meeting_under(sheet: &Sheet, clips: &[IRect], reported: IRect) -> u64 {
+    let in_box = |reach: &IRect, clip: &IRect| meets(reach.intersect(clip), reported);
+    let of_item = |item: &Item, clip: &IRect| item.reaches().iter().filter(|reach| in_box(reach, clip)).count() as u64;
+    sheet.items.iter().zip(clips).map(|((item, _), clip)| of_item(item, clip)).sum()
+}
+
+/// How many reaches of a sheet's items meet a box, each cut by the clip in force at its item.
 pub fn meeting(sheet: &Sheet, reported: IRect) -> u64 {
-    let reaches = sheet.items.iter().flat_map(|(item, _)| item.reaches());
-    reaches.filter(|reach| meets(*reach, reported)).count() as u64
+    meeting_under(sheet, &sheet.clips(), reported)
 }
 
 impl Ceiling {

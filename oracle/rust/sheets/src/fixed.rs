@@ -1,7 +1,7 @@
-//! The sheets and patches that document 01 gives as examples, the largest of their kinds, and the edges of requests 2026-01, 2026-04 and
-//! 2026-07.
+//! The sheets and patches that document 01 gives as examples, the largest of their kinds, and the edges of requests 2026-01, 2026-04, 2026-07
+//! and 2026-09.
 use crate::{
-    fixed_ceilings, fixed_chains, fixed_counts, fixed_frames, half,
+    fixed_ceilings, fixed_chains, fixed_clips, fixed_counts, fixed_frames, half,
     make::{bytes, pop},
     Made, LONGEST,
 };
@@ -166,6 +166,7 @@ pub fn patches() -> Vec<Patch> {
     let triangle = |x: f32| made(4, 4, vec![polygon(&[-1994.0, 1.0, x, 1.0, x, 1999.0], RED)]).bytes();
     add(triangle(4.5), triangle(5.0), 16, 0, 0, 0, [0; 4]);
     all.extend(fixed_chains::patches());
+    all.extend(fixed_clips::patches());
     all.extend(fixed_frames::patches());
     all
 }
@@ -187,6 +188,7 @@ pub fn check() {
     fixed_chains::check();
     fixed_counts::check();
     fixed_ceilings::check();
+    fixed_clips::check();
     fixed_frames::check();
 }
 

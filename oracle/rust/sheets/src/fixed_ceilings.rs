@@ -1,4 +1,5 @@
-//! Edges of change request 2026-06: patches with what they count and their ceilings, worked out by hand from its words.
+//! Edges of change request 2026-06: patches with what they count and their ceilings, worked out by hand from its words; those under a clip by
+//! 2026-09's.
 use crate::{
     called,
     fixed::{fill, made, polygon, push, RED},
@@ -8,10 +9,10 @@ use crate::{
     Answer, Ceiling, Sheet,
 };
 
-const GREEN: [u8; 4] = [0, 255, 0, 255];
+pub const GREEN: [u8; 4] = [0, 255, 0, 255];
 
 /// A patch on a canvas of w columns and h rows. No pixel has the ground's value before it, so that the ground alters the whole area.
-fn patch(name: &'static str, [w, h]: [u16; 2], items: [Vec<Vec<u8>>; 2], steps: u64, [meeting, area]: [u64; 2]) -> Count {
+pub fn patch(name: &'static str, [w, h]: [u16; 2], items: [Vec<Vec<u8>>; 2], steps: u64, [meeting, area]: [u64; 2]) -> Count {
     let [old, new] = items.map(|items| made(w, h, items).bytes());
     let before = vec![7; w as usize * h as usize];
     Count { name, old: Some(old), new, pitch: w as usize, before, steps, grounded: area, ceiling: Some(Ceiling { meeting, area }) }
@@ -27,7 +28,7 @@ fn fills() -> Vec<Count> {
         let beside = sides.map(|[x, y, w, h]| fill(x, y, w, h, RED));
         [&beside[..], &[fill(1.0, 1.0, 2.0, 2.0, rgba)]].concat()
     };
-    // The clip leaves column 0, so that the first fill cannot be seen in column 2, nor, without the pop, the one that differs.
+    // The clip leaves column 0, so that the first fill, in column 2, does not count; without the pop the box is empty, and none counts.
     let hidden = |rgba| vec![push(0.0, 0.0, 1.0, 1.0), fill(2.0, 0.0, 1.0, 1.0, RED), pop(), fill(2.0, 0.0, 1.0, 1.0, rgba)];
     let both_hidden = |rgba| vec![push(0.0, 0.0, 1.0, 1.0), fill(2.0, 0.0, 1.0, 1.0, RED), fill(2.0, 0.0, 1.0, 1.0, rgba)];
     // Three fills, each in column 0 or off the canvas.
@@ -36,8 +37,8 @@ fn fills() -> Vec<Count> {
     vec![
         patch("both_alter_all", [4, 3], [RED, GREEN].map(both), 12, [2, 6]),
         patch("touching", [4, 4], [RED, GREEN].map(touching), 4, [1, 4]),
-        patch("hidden_by_a_clip", [4, 1], [RED, GREEN].map(hidden), 1, [2, 1]),
-        patch("both_hidden_by_a_clip", [4, 1], [RED, GREEN].map(both_hidden), 0, [2, 1]),
+        patch("hidden_by_a_clip", [4, 1], [RED, GREEN].map(hidden), 1, [1, 1]),
+        patch("both_hidden_by_a_clip", [4, 1], [RED, GREEN].map(both_hidden), 0, [0, 0]),
         patch("one_gone_two_come", [4, 1], [one, two].map(three), 2, [2, 1]),
         patch("two_gone_one_come", [4, 1], [two, one].map(three), 1, [1, 1]),
     ]

@@ -4,7 +4,7 @@ use crate::{
     fixed::{fill, made, push, red, width, with, RED},
     fixed_ceilings,
     fixed_chains::{chain, rows, HALF, ONCE},
-    fixed_frames,
+    fixed_clips, fixed_frames,
     Ceiling, MOST_SIDE,
 };
 
@@ -102,7 +102,7 @@ fn patches() -> Vec<Count> {
 }
 
 pub fn counts() -> Vec<Count> {
-    [paintings(), patches(), fixed_ceilings::patches(), fixed_frames::counts()].into_iter().flatten().collect()
+    [paintings(), patches(), fixed_ceilings::patches(), fixed_clips::counts(), fixed_frames::counts()].into_iter().flatten().collect()
 }
 
 /// On the largest canvas 1,020 fills, red and white in turn, and after every 255th a chain of three lines that are wider than the canvas: each

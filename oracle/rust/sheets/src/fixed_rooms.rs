@@ -30,16 +30,16 @@ fn whole() -> Vec<u8> {
     fill(0.0, 0.0, 8.0, 8.0, RED)
 }
 
-fn stroke(rect: [f32; 4], width: f32, rgba: [u8; 4]) -> Vec<u8> {
+pub fn stroke(rect: [f32; 4], width: f32, rgba: [u8; 4]) -> Vec<u8> {
     [bytes([4, 0, 0, 0], &[&rect[..], &[0.0, width]].concat()), rgba.to_vec()].concat()
 }
 
-fn line(ends: [f32; 4], width: f32, rgba: [u8; 4]) -> Vec<u8> {
+pub fn line(ends: [f32; 4], width: f32, rgba: [u8; 4]) -> Vec<u8> {
     [bytes([5, 0, 0, 0], &[&ends[..], &[width]].concat()), rgba.to_vec()].concat()
 }
 
 /// A shadow around (3, 3, 2, 2), with `skip_inside` or without.
-fn shadow(skip: u8, blur: f32, rgba: [u8; 4]) -> Vec<u8> {
+pub fn shadow(skip: u8, blur: f32, rgba: [u8; 4]) -> Vec<u8> {
     [bytes([7, skip, 0, 0], &[3.0, 3.0, 2.0, 2.0, 0.0, blur]), rgba.to_vec()].concat()
 }
 

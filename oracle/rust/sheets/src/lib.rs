@@ -1,5 +1,6 @@
 //! The sheet and its patch as document 01 gives them, read in plain Rust apart from the proved crates and painted on the unchanged Rust
 //! canvas; and the sheets, damaged ones included, and patches that the proved library is held to.
+pub mod boxes;
 pub mod ceiling;
 pub mod chains;
 pub mod change;
@@ -7,6 +8,7 @@ pub mod damage;
 pub mod fixed;
 pub mod fixed_ceilings;
 pub mod fixed_chains;
+pub mod fixed_clips;
 pub mod fixed_counts;
 pub mod fixed_frames;
 pub mod fixed_rooms;

@@ -1,9 +1,6 @@
 //! What painting, patching and measuring answer, and what the first two leave of scratch and pixels, by document 01 and requests 2026-01,
-//! 2026-03, 2026-05 and 2026-07.
-use crate::{
-    item::{around, EMPTY},
-    Counted, Fault, Sheet, MOST_CHANGES,
-};
+//! 2026-03, 2026-05, 2026-07 and 2026-09.
+use crate::{boxes, item::EMPTY, Counted, Fault, Sheet, MOST_CHANGES};
 use answers::frame::{pitch_ok, Frame};
 use kash::geom::IRect;
 
@@ -142,29 +139,32 @@ pub fn measure(bytes: &[u8]) -> Room {
 }
 
 /// The box of a patch, or its number: 10 where the sheets differ in something other than a shape, then 14.
-fn differing(old: &Sheet, new: &Sheet) -> Result<IRect, u32> {
+fn differing(sheets: &[Sheet; 2]) -> Result<IRect, u32> {
+    let [old, new] = sheets;
     if (old.w, old.h, old.ground, old.items.len()) != (new.w, new.h, new.ground, new.items.len()) {
         return Err(10);
     }
-    let differ: Vec<_> = old.items.iter().zip(&new.items).filter(|(a, b)| a.1 != b.1).collect();
-    if differ.iter().any(|(a, b)| !a.0.is_shape() || !b.0.is_shape()) {
+    let places = boxes::differing(sheets);
+    if places.iter().any(|i| !old.items[*i].0.is_shape() || !new.items[*i].0.is_shape()) {
         return Err(10);
     }
-    if differ.len() > MOST_CHANGES {
+    if places.len() > MOST_CHANGES {
         return Err(14);
     }
-    let reaches = differ.iter().flat_map(|(a, b)| [a.0.reach(), b.0.reach()]);
-    Ok(reaches.fold(EMPTY, |area, reach| around(area, reach.intersect(&new.canvas()))))
+    Ok(boxes::reported(sheets))
 }
 
 /// Patching from an old sheet to a new one.
 pub fn patch(old: &[u8], new: &[u8], pitch: usize, px: usize, scratch: usize) -> Expected {
-    let sheets = Sheet::read(old).and_then(|old| Ok((old, Sheet::read(new)?)));
+    let sheets = Sheet::read(old).and_then(|old| Ok([old, Sheet::read(new)?]));
     match sheets {
         Err(fault) => Expected::refused(fault),
-        Ok((old, new)) => match differing(&old, &new) {
+        Ok(sheets) => match differing(&sheets) {
             Err(number) => Expected::refused(Fault { number, item: 0 }),
-            Ok(area) => lent(new, area, pitch, px, scratch),
+            Ok(area) => {
+                let [_, new] = sheets;
+                lent(new, area, pitch, px, scratch)
+            }
         },
     }
 }

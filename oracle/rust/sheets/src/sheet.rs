@@ -106,18 +106,28 @@ impl Sheet {
         [0].into_iter().chain(after).collect()
     }
 
-    /// The pixels of the canvas in a shape's reach and in the clip at it, summed over the shapes. The clip is the Rust's own.
-    pub fn met(&self) -> u64 {
+    /// The clip in force before the first item, and after each, where the sheet is painted from nothing: so that of item i stands at i. The
+    /// clips are the Rust's own.
+    pub fn clips(&self) -> Vec<IRect> {
         let mut canvas = Canvas::new(self.w as i32, self.h as i32);
-        let mut met = 0;
+        let mut clips = vec![canvas.clip()];
         for (item, _) in &self.items {
-            if item.is_shape() {
-                met += in_both(self.w, self.h, &item.reach(), &canvas.clip());
-            } else {
+            if !item.is_shape() {
                 item.draw(&mut canvas);
             }
+            clips.push(canvas.clip());
         }
-        met
+        clips
+    }
+
+    /// The same where nothing is clipped: the whole canvas at each.
+    pub fn unclipped(&self) -> Vec<IRect> {
+        vec![self.canvas(); self.items.len() + 1]
+    }
+
+    /// The pixels of the canvas in a shape's reach and in the clip at it, summed over the shapes.
+    pub fn met(&self) -> u64 {
+        self.items.iter().zip(self.clips()).map(|((item, _), clip)| in_both(self.w, self.h, &item.reach(), &clip)).sum()
     }
 
     /// The box of the whole canvas.
