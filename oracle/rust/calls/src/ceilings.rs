@@ -1,6 +1,6 @@
 //! What a run has seen of the ceiling on patch work, change request 2026-06: by the box and the counts that the library itself returned.
 use sheets::{
-    ceiling::{meeting, meets},
+    ceiling::{meeting, meeting_under, meets},
     Answer, Ceiling, Sheet,
 };
 use std::fmt;
@@ -47,12 +47,14 @@ pub struct Ceilings {
     grounded: Share,
     /// Patches whose steps are above each of `TOO_LOW`.
     above: [u64; TOO_LOW.len()],
+    /// Patches whose M is less than that of the reaches before any clip.
+    cut: u64,
 }
 
 /// The ceilings of `TOO_LOW`.
 fn too_low([old, new]: &[Sheet; 2], answer: &Answer, ceiling: &Ceiling) -> [u64; TOO_LOW.len()] {
     let reported = answer.reported();
-    let shapes = new.items.iter().filter(|(item, _)| meets(item.reach(), reported)).count() as u64;
+    let shapes = new.items.iter().zip(new.clips()).filter(|((item, _), clip)| meets(item.reach().intersect(clip), reported)).count() as u64;
     [shapes * ceiling.area, ceiling.meeting * reported.w() as u64, meeting(old, reported) * ceiling.area]
 }
 
@@ -65,6 +67,7 @@ impl Ceilings {
             self.several.raise(answer.steps, ceiling.steps());
         }
         self.grounded.raise(answer.grounded, ceiling.area);
+        self.cut += (ceiling.meeting < meeting_under(&sheets[1], &sheets[1].unclipped(), answer.reported())) as u64;
         for (above, low) in self.above.iter_mut().zip(too_low(sheets, answer, ceiling)) {
             *above += (answer.steps > low) as u64;
         }
@@ -81,11 +84,15 @@ impl Ceilings {
             for (name, times) in TOO_LOW.iter().zip(self.above) {
                 println!("ceilings: above that with {name:32} {times:>9}");
             }
+            println!("ceilings: {} patches whose M a clip makes less", self.cut);
         }
         let low = shares.into_iter().filter(|(_, share)| share.of_1() < LEAST);
         let low = low.inspect(|(name, share)| println!("the greatest {name} is {share}, less than {LEAST}")).count();
         let never = TOO_LOW.iter().zip(self.above).filter(|(_, times)| *times == 0);
         let never = never.inspect(|(name, _)| println!("no patch was above the ceiling with {name}")).count();
-        low + never > 0
+        if self.cut == 0 {
+            println!("no patch has an M that a clip makes less");
+        }
+        low + never > 0 || self.cut == 0
     }
 }

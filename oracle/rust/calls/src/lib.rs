@@ -1,5 +1,6 @@
 //! The sheet calls, measuring, the call of the clip orders and the canvas calls on pixels of the crate `maldjupp`, on lent memory. A slice
 //! passes as a pointer and a length.
+pub mod boxes;
 pub mod ceilings;
 pub mod rooms;
 

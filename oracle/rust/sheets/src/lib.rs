@@ -4,6 +4,7 @@ pub mod boxes;
 pub mod ceiling;
 pub mod chains;
 pub mod change;
+pub mod columns;
 pub mod damage;
 pub mod fixed;
 pub mod fixed_ceilings;

@@ -1,17 +1,19 @@
 //! Lists of patches after an accepted painting, beside the unchanged Rust: `patches CALLS`, or `patches list N` for one list of them.
 //! After each call every pixel must be that of the sheet accepted last, painted afresh, every word past the canvas as it was before the
-//! painting, and an accepted patch's counts at most their ceiling. Exit status 1 where anything differs, or where a number of documents 01
-//! and 02, a way of altering a sheet, a number of differing shapes, a pair with a chain, a patch that alters nothing, a wider frame or another
-//! pitch in a list comes too seldom, or no count comes near its ceiling.
+//! painting, an accepted patch's counts at most their ceiling, and its box within that of the reaches before any clip. Exit status 1 where
+//! anything differs, or where a number of documents 01 and 02, a way of altering a sheet, a number of differing shapes, a pair with a chain, a patch
+//! that alters nothing, a shape under narrow clips, a box that a clip makes smaller or empty, a wider frame or another pitch in a list comes
+//! too seldom, or no count comes near its ceiling.
 use answers::{
     frame::{pitch_ok, Frame},
     random::{Random, SEED},
 };
-use calls::{bad_pitch, ceilings::Ceilings, dirty, enough, Compared, Memory, Numbers, TOLD};
+use calls::{bad_pitch, boxes::Boxes, ceilings::Ceilings, dirty, enough, Compared, Memory, Numbers, TOLD};
 use sheets::{
-    called,
+    boxes, called,
     chains::unseen,
     change::{self, APART, PITCH, PX, SCRATCH, WAYS},
+    columns::with_columns,
     fixed, fixed_counts, make, paint, patch, Answer, Ceiling, Chains, Counted, Expected, Made, Sheet,
 };
 use std::{env, process::exit, time::Instant};
@@ -22,11 +24,6 @@ const SETS: [(usize, &str); 7] = [(0, "none"), (1, "one"), (2, "2 to 15"), (16, 
 /// Old and new sheet of a patch, where both are sound.
 fn read(old: &[u8], new: &[u8]) -> Option<[Sheet; 2]> {
     Some([Sheet::read(old).ok()?, Sheet::read(new).ok()?])
-}
-
-/// The number of items that differ in two sheets of one count.
-fn differing([old, new]: &[Sheet; 2]) -> usize {
-    old.items.iter().zip(&new.items).filter(|(a, b)| a.1 != b.1).count()
 }
 
 #[derive(Default)]
@@ -44,6 +41,7 @@ struct Run {
     pitches: [u64; 3],
     chains: Chains,
     ceilings: Ceilings,
+    boxes: Boxes,
     compared: Compared,
     paintings: u64,
     calls: u64,
@@ -112,7 +110,8 @@ impl Run {
 
     fn painted(&mut self, name: &str, random: &mut Random) -> Ticket {
         let most = if random.below(3) == 0 { 70 } else { 14 };
-        let kept = make::sheet(random, 32, most);
+        let made = make::sheet(random, 32, most);
+        let kept = if random.below(4) > 0 { with_columns(made, random) } else { made };
         let bytes = kept.bytes();
         let sheet = Sheet::read(&bytes).expect("a sound sheet");
         let frame = Frame::around(sheet.w, sheet.h, random);
@@ -145,6 +144,7 @@ impl Run {
             self.count_pairs(&sheets, &expected, counted.as_ref());
             if let Some(ceiling) = self.hold(name, &sheets, &left.answer) {
                 self.ceilings.add(&sheets, &left.answer, &ceiling);
+                self.boxes.add(&sheets, left.answer.reported());
             }
         }
         // A list keeps its lent px: a call on px of another length, which may be accepted with a pitch that fits it, is none of the list's.
@@ -179,13 +179,14 @@ impl Run {
         }] += 1;
     }
 
-    /// Holds a patch that the library accepted to its ceiling, by the new sheet and the box that it reported; answers that.
+    /// Holds a patch that the library accepted to its ceiling, by the new sheet and the box that it reported, and that box to the one before any
+    /// clip; answers the ceiling.
     fn hold(&mut self, name: &str, sheets: &[Sheet; 2], answer: &Answer) -> Option<Ceiling> {
         if answer.number > 0 {
             return None;
         }
         let ceiling = Ceiling::of(&sheets[1], answer.reported());
-        if let Some(what) = ceiling.fault(answer) {
+        if let Some(what) = ceiling.fault(answer).or(boxes::fault(sheets, answer.reported())) {
             let [old, new] = sheets.each_ref().map(|sheet| Made::of(sheet).bytes());
             self.differs(name, what, format!("{answer:?} with {ceiling:?}\n  old {old:02x?}\n  new {new:02x?}"));
         }
@@ -207,7 +208,7 @@ impl Run {
     /// Which items differ, in a patch that was accepted or refused by 14.
     fn count_pairs(&mut self, sheets: &[Sheet; 2], expected: &Expected, counted: Option<&Counted>) {
         if [0, 14].contains(&expected.number) {
-            let n = differing(sheets);
+            let n = boxes::differing(sheets).len();
             self.sets[SETS.iter().rposition(|(from, _)| *from <= n).expect("0 is the first")] += 1;
             if let Some(counted) = counted {
                 self.chains.painted(&sheets[1], counted);
@@ -247,7 +248,7 @@ impl Run {
         if nothing {
             println!("accepted with steps 0 and grounded 0: {} times with an empty box, {} times with another", self.empty, self.still);
         }
-        let unbounded = self.ceilings.lack(told) | self.compared.frames.lack(told) | pitches;
+        let unbounded = self.ceilings.lack(told) | self.boxes.lack(calls, told) | self.compared.frames.lack(told) | pitches;
         let unseen = (0..WAYS.len()).any(|way| self.accepted[way] + self.refused[way] == 0) || self.sets.contains(&0) || nothing;
         !seldom.is_empty() || !never.is_empty() || unseen || unbounded
     }
