@@ -1,5 +1,6 @@
-//! Writes what the program `replay_stored` reads and must print, below its folder data and in its file stdout, and the sheets of oracle/stored.
-//! Before it writes, it holds the table of a shadow's fractions to the Rust.
+//! Writes what the program `replay_stored` reads and must print, below its folder data and in its file stdout, and the sheets of oracle/stored:
+//! `generate CRATES STORED`. Before it writes, it holds the table of a shadow's fractions to the Rust. `generate earlier FILE` holds patches that
+//! were stored before change request 2026-09 to what they give now, and writes nothing.
 use answers::{frame::Frame, random::Random};
 use std::{
     env, fs, iter,
@@ -82,6 +83,9 @@ impl Printed {
 
 fn main() {
     let given = |i: usize| PathBuf::from(env::args().nth(i).expect("the folder crates of the repository, and that of the stored sheets"));
+    if env::args().nth(1).is_some_and(|word| word == "earlier") {
+        return sheet::earlier(&fs::read(given(2)).expect("a file of stored patches"));
+    }
     falloff::hold(&given(1).join("falloff/src/lib.rt"));
     let folder = given(1).join("replay_stored");
     let mut printed = Printed::default();

@@ -5,13 +5,18 @@ use answers::{
     frame::{pitch_ok, steps, Frame},
     random::{Random, SEED},
 };
+use kash::geom::IRect;
 use sheets::{
-    called,
+    boxes, called,
     chains::unseen,
     change::{self, APART, DAMAGED_NEW, DAMAGED_OLD, ONE_SHAPE, PITCH, PX, SCRATCH},
+    columns::with_columns,
     damage::damaged,
-    fixed, make, After, Chains, Expected, Made, Sheet,
+    fixed,
+    item::EMPTY,
+    make, After, Chains, Expected, Item, Made, Sheet,
 };
+use std::ops::Range;
 
 /// Words of a case, and the most that it has of pixels, scratch, and words of its sheets.
 const WIDTH: usize = 254;
@@ -26,8 +31,12 @@ const AFTER: u32 = 3;
 const CASES: usize = 400;
 const SIDES: [[u16; 2]; 8] = [[1, 1], [8, 8], [16, 4], [4, 16], [10, 6], [7, 9], [64, 1], [1, 64]];
 
-/// The place of a case's number.
+/// The places of a case's number, box and counts, of the scratch words left +0, and of the pitch of what is left in px.
 const NUMBER: usize = 8;
+const BOX: usize = 10;
+const COUNTS: usize = 14;
+const SWEPT: usize = 16;
+const LEFT: usize = 17;
 
 /// A call that a case can hold: its pitch, and that of the painting before it or else its own.
 struct Given {
@@ -80,8 +89,12 @@ impl Given {
     }
 
     fn case(&self, random: &mut Random) -> Vec<u32> {
+        self.case_on(random.word(), random.word() | 1)
+    }
+
+    /// The case where px run from a base in equal steps.
+    fn case_on(&self, base: u32, step: u32) -> Vec<u32> {
         assert!(self.fits());
-        let (base, step) = (random.word(), random.word() | 1);
         let expected = self.expected();
         let counted = expected.counted();
         let After { answer: a, px, swept, .. } = expected.after(&self.given_px(base, step), counted.as_ref());
@@ -175,9 +188,15 @@ fn all_stand(cases: &[Vec<u32>], numbers: &[u32], least: usize) {
     }
 }
 
+/// A sheet of few items, of which most stand under narrow clips.
+fn in_columns(random: &mut Random) -> Made {
+    let (sides, n) = (random.of(&SIDES[1..7]), 1 + random.below(3) as usize);
+    with_columns(make::on(random, sides, n, 4), random)
+}
+
 /// A sheet and the frame that it is kept in.
 fn in_frame(random: &mut Random) -> (Made, Frame) {
-    let made = sound(random);
+    let made = if random.below(4) > 0 { in_columns(random) } else { sound(random) };
     let frame = framed(made.w as usize, made.h as usize, random);
     (made, frame)
 }
@@ -188,6 +207,22 @@ fn wider(cases: &[Given]) {
     let wider = frames.iter().filter(|frame| frame.is_wider()).count();
     println!("{wider} of {} accepted calls in a wider frame", frames.len());
     assert!(5 * wider > 2 * frames.len() && frames.iter().any(|frame| frame.pitch == 4096));
+}
+
+/// Holds the accepted patches to have shown boxes that a clip makes smaller, and ones that it makes empty.
+fn all_boxes(cases: &[Given]) {
+    let [mut same, mut smaller, mut empty] = [0; 3];
+    for given in cases {
+        if let (Ok(old), Expected { area, sheet: Some(new), .. }) = (Sheet::read(&given.old), given.expected()) {
+            match boxes::unclipped(&[old, new]) {
+                before if before == area => same += 1,
+                _ if area == EMPTY => empty += 1,
+                _ => smaller += 1,
+            }
+        }
+    }
+    println!("{smaller} boxes that a clip makes smaller, {empty} that it makes empty, {same} others");
+    assert!(smaller >= 40 && empty >= 20 && same >= 40);
 }
 
 /// Holds the cases to have shown every sort of chain.
@@ -210,6 +245,62 @@ fn all_chains(cases: &[Given]) {
     let never = unseen(&counts, true);
     assert!(never.is_empty(), "chains never seen: {never:?}");
     println!("{}", chains.share());
+}
+
+/// What was found of patches that were stored before: all, those accepted, those of them with a push, and those whose box is smaller now.
+#[derive(Default)]
+struct Earlier {
+    cases: usize,
+    accepted: usize,
+    pushed: usize,
+    smaller: usize,
+}
+
+/// The call of a stored case.
+fn stored_call(case: &[u32]) -> Given {
+    let bytes: Vec<u8> = case[WIDTH - SHEETS..].iter().flat_map(|word| word.to_le_bytes()).collect();
+    let [o, n, px] = [1, 2, 3].map(|at| case[at] as usize);
+    let from = o.div_ceil(4) * 4;
+    let [scratch, pitch, left] = [6, 7, LEFT].map(|at| case[at] as usize);
+    let painted = if case[0] == AFTER && left > 0 { left } else { pitch };
+    Given { f: case[0], old: bytes[..o].to_vec(), new: bytes[from..from + n].to_vec(), pitch, painted, px, scratch }
+}
+
+/// Holds a stored patch to what the call gives now: all is the same, but that a box may have become smaller where there is a push, and with it
+/// the counts, and the pixels on px in equal steps.
+fn hold_earlier(i: usize, case: &[u32], found: &mut Earlier) {
+    let given = stored_call(case);
+    let now = given.case_on(case[4], case[5]);
+    found.cases += 1;
+    found.accepted += (case[NUMBER] == 0) as usize;
+    let pushed = Sheet::read(&given.new).is_ok_and(|new| new.items.iter().any(|(item, _)| matches!(item, Item::Push(_))));
+    found.pushed += (case[NUMBER] == 0 && pushed) as usize;
+    if now == case {
+        return;
+    }
+    found.smaller += 1;
+    let sheets = [&given.old, &given.new].map(|bytes| Sheet::read(bytes).expect("a sound sheet"));
+    let [before, area] = [case, &now[..]].map(|case| {
+        let [x0, y0, x1, y1] = [0, 1, 2, 3].map(|at| case[BOX + at] as i32);
+        IRect::new(x0, y0, x1, y1)
+    });
+    assert!(pushed && case[NUMBER] == 0 && area != before, "case {i} differs, and not by a clip");
+    assert_eq!((boxes::unclipped(&sheets), boxes::fault(&sheets, area)), (before, None), "case {i}");
+    let same = |places: Range<usize>| now[places.clone()] == case[places];
+    assert!(same(0..BOX) && same(SWEPT..LEFT + 2) && same(WIDTH - SHEETS..WIDTH), "case {i}");
+    assert!(now[COUNTS] <= case[COUNTS] && now[COUNTS + 1] <= case[COUNTS + 1], "case {i} counts more");
+    assert!(case[0] == PATCH || same(LEFT + 2..WIDTH - SHEETS), "case {i} leaves other pixels in a list");
+}
+
+/// Holds the patches of a file that was stored before change request 2026-09 to what they give now.
+pub fn earlier(bytes: &[u8]) {
+    let words: Vec<u32> = bytes.chunks_exact(4).map(|b| u32::from_le_bytes([b[0], b[1], b[2], b[3]])).collect();
+    assert_eq!(words.len(), 1 + words[0] as usize * WIDTH, "a file of patches");
+    let mut found = Earlier::default();
+    words[1..].chunks_exact(WIDTH).enumerate().for_each(|(i, case)| hold_earlier(i, case, &mut found));
+    let Earlier { cases, accepted, pushed, smaller } = found;
+    let found = format!("{cases} stored patches, {accepted} accepted, {pushed} of them with a push");
+    println!("{found}, {smaller} with a smaller box now; all others are as they were");
 }
 
 /// Document 01's examples that fit, then random sheets, two in five of them damaged.
@@ -240,7 +331,7 @@ pub fn patches() -> Stored {
     let mut all: Vec<Given> = examples.filter(Given::fits).collect();
     let (mut kept, mut frame) = in_frame(&mut random);
     while all.len() < CASES {
-        if random.below(12) == 0 {
+        if random.below(6) == 0 {
             (kept, frame) = in_frame(&mut random);
         }
         let given = patching(&kept, &frame, &mut random);
@@ -253,6 +344,7 @@ pub fn patches() -> Stored {
         all.push(given);
     }
     all_chains(&all);
+    all_boxes(&all);
     let cases: Vec<Vec<u32>> = all.iter().map(|given| given.case(&mut random)).collect();
     all_stand(&cases, &[1, 2, 3, 4, 5, 6, 7, 8, 9, 10, 13, 15], 2);
     wider(&all);
