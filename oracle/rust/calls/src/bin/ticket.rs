@@ -2,7 +2,8 @@
 //! shape, and a folder of four sheets, each with one shape other than in the one before. The smallest time of 200 rounds, the two in turn.
 //! The Rust draws items that were read before, on a canvas that is there. How many steps of the ticket's shapes altered a pixel is told with it,
 //! each answer being held to what the Rust gives. Then what a patch costs by the area of its box and by the number
-//! of items, what one patch of three shapes costs beside three patches of one, and what checking a sheet of about 60,000 bytes costs
+//! of items, and under a clip of few columns, beside the box that it would have before any clip; what one patch of three shapes costs beside three
+//! patches of one, and what checking a sheet of about 60,000 bytes costs
 //! beside painting it, and measuring it beside checking it; and what a weight trace costs as one chain beside the same lines as items.
 //! All of this is on a canvas alone; then what painting, patching and clearing cost within a wider frame beside that.
 //! Beside each patch stand the steps that it returned, which must be those of the Rust, and their ceiling, M × area.
@@ -10,7 +11,7 @@ use answers::frame::Frame;
 use calls::raw::{maldjupp_clear, maldjupp_measure, maldjupp_paint, maldjupp_patch, Done, Ink, State};
 use kash::{color::Color, gfx::Canvas};
 use sheets::{
-    called,
+    boxes, called,
     fixed::{self, width},
     fixed_chains::chain,
     make, measure, paint, patch, Answer, Ceiling, Made, Sheet,
@@ -74,8 +75,18 @@ fn weighing(n: usize) -> [Vec<u8>; 4] {
     })
 }
 
-/// The smallest times of painting a sheet and of patching it to another; and the patch's steps of their ceiling.
-fn costs(sheet: &[u8], other: &[u8]) -> ([f64; 2], String) {
+/// Two sheets 640 × 400 of 60 items: a push of so many columns, a panel of 600 × 360, which has another colour in the second, and 58 small fills.
+fn clipped(columns: f32) -> [Vec<u8>; 2] {
+    [0, 60].map(|blue| {
+        let panel = fixed::fill(20.0, 20.0, 600.0, 360.0, [244, 246, blue, 255]);
+        let small = |k: usize| fixed::fill((k * 37 % 620) as f32, (k * 53 % 380) as f32, 12.0, 12.0, [200, k as u8, 60, 255]);
+        let items = [fixed::push(320.0 - (columns / 2.0).floor(), 0.0, columns, 400.0), panel].into_iter().chain((0..58).map(small)).collect();
+        Made { w: 640, h: 400, ground: [240; 3], items }.bytes()
+    })
+}
+
+/// The smallest times of painting a sheet and of patching it to another; and what the patch returns.
+fn costs(sheet: &[u8], other: &[u8]) -> ([f64; 2], Answer) {
     let mut px = vec![0u32; 640 * 400];
     let mut least = [f64::MAX; 2];
     let patched = patch(sheet, other, 640, px.len(), 0).on(&Sheet::read(sheet).expect("a sound sheet").fresh()).answer;
@@ -88,7 +99,7 @@ fn costs(sheet: &[u8], other: &[u8]) -> ([f64; 2], String) {
         });
         assert_eq!(answer, patched);
     }
-    (least, of_ceiling(other, &patched))
+    (least, patched)
 }
 
 /// The smallest times of having a sheet refused by 8 after its checks, no pixels being lent, and of measuring it; the two in turn.
@@ -147,8 +158,8 @@ fn sets_by_items(ticket: &[Vec<u8>; 4]) {
 fn sizes() {
     println!("\n| patch, 60 items, box | painted µs | patched µs | ratio | steps of ceiling |\n|---|---|---|---|---|");
     let row = |name: &str, sheet: &[u8], other: &[u8]| {
-        let ([painted, patched], steps) = costs(sheet, other);
-        println!("| {name} | {painted:.1} | {patched:.1} | {:.3} | {steps} |", patched / painted);
+        let ([painted, patched], answer) = costs(sheet, other);
+        println!("| {name} | {painted:.1} | {patched:.1} | {:.3} | {} |", patched / painted, of_ceiling(other, &answer));
     };
     for side in [8, 32, 64, 128, 256] {
         row(&format!("{side} × {side}"), &fills(60, side as f32), &fills(60, side as f32 - 1.0));
@@ -158,8 +169,23 @@ fn sizes() {
         row(&n.to_string(), &fills(n, 32.0), &fills(n, 31.0));
     }
     let sheet = fills(1000, 32.0);
-    let ([_, patched], steps) = costs(&sheet, &sheet);
-    println!("\n| patch between equal sheets, items | patched µs | steps of ceiling |\n|---|---|---|\n| 1000 | {patched:.1} | {steps} |");
+    let ([_, patched], answer) = costs(&sheet, &sheet);
+    println!("\n| patch between equal sheets, items | patched µs | steps of ceiling |");
+    println!("|---|---|---|\n| 1000 | {patched:.1} | {} |", of_ceiling(&sheet, &answer));
+}
+
+/// What a patch costs where a clip leaves so many columns of the panel that differs: its box is theirs, and not that of the whole reach.
+fn columns() {
+    println!("\n| patch, 60 items under a clip of columns | box before any clip | box | painted µs | patched µs | ratio | steps of ceiling |");
+    println!("|---|---|---|---|---|---|---|");
+    for columns in [640, 128, 32, 8, 1] {
+        let pair = clipped(columns as f32);
+        let ([painted, patched], answer) = costs(&pair[0], &pair[1]);
+        let before = boxes::unclipped(&pair.each_ref().map(|bytes| Sheet::read(bytes).expect("a sound sheet")));
+        let [before, area] = [before, answer.reported()].map(|area| format!("{} × {}", area.w(), area.h()));
+        let steps = of_ceiling(&pair[1], &answer);
+        println!("| {columns} | {before} | {area} | {painted:.1} | {patched:.1} | {:.3} | {steps} |", patched / painted);
+    }
 }
 
 fn largest() {
@@ -357,6 +383,7 @@ fn main() {
     let settled = ["0-before", "1-gross", "2-tare", "3-grade"].map(|name| fs::read(format!("{}/{name}.sheet", word(3))).expect("a file"));
     ticket(&[file(1), file(2)]);
     sizes();
+    columns();
     largest();
     sets_by_items(&settled);
     traces();
