@@ -1,4 +1,4 @@
--- Two runs of bytes, one byte after another: lengths that differ, a turn of the loop, where it stops, and the end. Assumes nothing.
+-- Two runs of bytes, one byte after another: lengths that differ, a turn of the loop, and the end. Assumes nothing.
 use Prim.Native.Nat.{ℕ, suc, _+_, _<_, _≤_}
 use mathlib.Core.Path.{_≡_, refl, ap}
 use mathlib.Core.Bool.{Bool, true, false, _&&_}
@@ -7,8 +7,11 @@ use native.Mathlib.Numerals.{add-one}
 use lib.Dec.{eqb}
 use lib.ListN.{length, getD, drop, drop-of-length-le}
 use lib.Seq.{drop-cons}
-use borrow.Author.Tests.{eq-eqb, ne-eqb}
 use Rattle.items.specs.Format.{sameBytes}
+
+and-true : (t : Bool) → t && true ≡ t
+and-true true = refl
+and-true false = refl
 
 none : (t : Bool) → t && false ≡ false
 none true = refl
@@ -26,14 +29,15 @@ module _ (a b : List ℕ) (i : ℕ) where
   abbrev From : ℕ → Bool
   From j = sameBytes (drop j a) (drop j b)
 
-  pub bytes-stop : i < length a → i < length b → (getD a i 0 ≡ getD b i 0 → ⊥) → From i ≡ false
+  -- with what is known of the bytes before it
+  pub bytes-turn : (same : Bool) → i < length a → i < length b → same && From i ≡ (same && eqb (getD a i 0) (getD b i 0)) && From (i + 1)
   unfolding sameBytes
-  bytes-stop h k e = rw (drop-cons a i 0 h, drop-cons b i 0 k, ne-eqb (getD a i 0) (getD b i 0) e)
+  bytes-turn same h k = rw (drop-cons a i 0 h, drop-cons b i 0 k, add-one) (go same)
+    where
+      go : (t : Bool) → t && (eqb (getD a i 0) (getD b i 0) && From (suc i)) ≡ (t && eqb (getD a i 0) (getD b i 0)) && From (suc i)
+      go true = refl
+      go false = refl
 
-  pub bytes-turn : i < length a → i < length b → getD a i 0 ≡ getD b i 0 → From i ≡ From (i + 1)
+  pub bytes-done : (same : Bool) → length a ≤ i → length b ≤ i → same && From i ≡ same
   unfolding sameBytes
-  bytes-turn h k e = rw (drop-cons a i 0 h, drop-cons b i 0 k, eq-eqb (getD a i 0) (getD b i 0) e, add-one)
-
-  pub bytes-done : length a ≤ i → length b ≤ i → From i ≡ true
-  unfolding sameBytes
-  bytes-done h k = rw (drop-of-length-le a h, drop-of-length-le b k)
+  bytes-done same h k = rw (drop-of-length-le a h, drop-of-length-le b k) (and-true same)
