@@ -10,7 +10,7 @@ use lib.IntN.{ℤ, pos, predℤ}
 use lib.Signed.{leZ, ltZ}
 use Rattle.geom.specs.declared.IRect.{IRect}
 use Rattle.geom.specs.Int.{up, maxZ, minZ}
-use Rattle.geom.proofs.Int.{orderZ, pred-down, down-none, le-up, lt-up, max-left, max-right, max-by, max-assoc, min-left, min-right, min-by, min-assoc}
+use Rattle.geom.proofs.Int.{orderZ, pred-down, down-none, le-up, lt-up, max-left, max-right, max-by, max-twice, max-assoc, min-left, min-right, min-by, min-twice, min-assoc}
 use Rattle.geom.proofs.Bools.{and-left, and-right, and-both, or-false, same-test, split}
 use Rattle.geom.specs.Box.{boxOf, inside, meet, empty, noBox, around, join, joinAll, hull, Holds, inAny, HoldsAll, SmallestAll, HoldsEach, Smallest}
 
@@ -153,6 +153,17 @@ meet-right a b = record { holds = λ x y e. and-right (inside a x y) (inside b x
 pub cut-in : (a b : IRect) → empty (meet a b) ≡ false → Within a (meet a b) × Within b (meet a b)
 cut-in a b e = (edges (meet a b) e a (meet-left a b), edges (meet a b) e b (meet-right a b))
 
+-- a cut by the same box again leaves what it was
+range-twice : (c d k : ℤ) → maxZ (minZ c (maxZ (minZ c d) k)) k ≡ maxZ (minZ c d) k
+unfolding maxZ
+range-twice c d k =
+    split (leZ (minZ c d) k) (λ t. maxZ (minZ c (cond t k (minZ c d))) k ≡ cond t k (minZ c d)) (λ e. rw (min-right c k)) (λ e. rw (min-twice c d, e))
+
+pub meet-twice : (a b : IRect) → meet a (meet a b) ≡ meet a b
+unfolding meet
+meet-twice a b =
+    rw (max-twice (a .x0) (b .x0), max-twice (a .y0) (b .y0), range-twice (a .x1) (b .x1) (maxZ (a .x0) (b .x0)), range-twice (a .y1) (b .y1) (maxZ (a .y0) (b .y0)))
+
 pub meet-empty : (a b : IRect) → empty a ≡ true → empty (meet a b) ≡ true
 meet-empty a b e =
     split (empty (meet a b)) (λ t. t ≡ true) (λ f. refl) (λ f. sym (holds-full a (meet a b) (meet-left a b) f) ∙ e)
@@ -179,7 +190,7 @@ within-nat w h b i =
 holds-self : (b : IRect) → Holds b b
 holds-self b = record { holds = λ x y e. e }
 
-holds-trans : {a b c : IRect} → Holds a b → Holds b c → Holds a c
+pub holds-trans : {a b c : IRect} → Holds a b → Holds b c → Holds a c
 holds-trans h k = record { holds = λ x y e. h .holds x y (k .holds x y e) }
 
 pub holds-empty : (big small : IRect) → empty small ≡ true → Holds big small

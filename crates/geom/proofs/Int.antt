@@ -113,6 +113,19 @@ pub min-by : (P : ℤ → Type 0) (a b : ℤ) → P a → P b → P (minZ a b)
 unfolding minZ
 min-by P a b p q = split (leZ a b) (λ t. P (cond t a b)) (λ e. p) (λ e. q)
 
+-- with one of the two once more
+either : {A : Type 0} (t : Bool) (a : A) → cond t a a ≡ a
+either true a = refl
+either false a = refl
+
+pub max-twice : (a b : ℤ) → maxZ a (maxZ a b) ≡ maxZ a b
+unfolding maxZ
+max-twice a b = split (leZ a b) (λ t. cond (leZ a (cond t b a)) (cond t b a) a ≡ cond t b a) (λ e. rw e) (λ e. either (leZ a a) a)
+
+pub min-twice : (a b : ℤ) → minZ a (minZ a b) ≡ minZ a b
+unfolding minZ
+min-twice a b = split (leZ a b) (λ t. cond (leZ a (cond t a b)) a (cond t a b) ≡ cond t a b) (λ e. either (leZ a a) a) (λ e. rw e)
+
 -- of three
 pub min-assoc : (a b c : ℤ) → minZ (minZ a b) c ≡ minZ a (minZ b c)
 unfolding minZ

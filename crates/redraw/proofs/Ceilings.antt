@@ -1,7 +1,7 @@
 -- The ceiling on patch work, over any format: a step alters no more pixels than lie in the box, and none where its reach, cut by the clip of a
 -- painting from nothing, does not meet the box.
 -- Assumes nothing.
-use mathlib.Core.Bool.{Bool, true, false, cond, _&&_, _||_}
+use mathlib.Core.Bool.{Bool, true, false, cond, _&&_, _||_, and-assoc}
 use mathlib.Core.List.{List, [], _∷_}
 use mathlib.Core.Path.{_≡_, refl, sym, ap, _∙_}
 use Prim.Native.Nat.{ℕ, suc, _+_, _-_, _*_, _/_, _%_, _≤_}
@@ -72,11 +72,7 @@ module _ (pitch n pixels : ℕ) (box : IRect) (counted : countTo (λ i. inside b
   unfolding meets
   in-cut c d reach u x y =
       rw (u x y, in-meet box (meet d reach) (pos x) (pos y), in-meet d reach (pos x) (pos y))
-      (go (inside box (pos x) (pos y)) (inside d (pos x) (pos y)) (inside reach (pos x) (pos y)))
-    where
-      go : (p q r : Bool) → (p && q) && r ≡ p && (q && r)
-      go true q r = refl
-      go false q r = refl
+      (and-assoc (inside box (pos x) (pos y)) (inside d (pos x) (pos y)) (inside reach (pos x) (pos y)))
 
   -- a part alters no pixel where its reach, cut by d, does not meet the box, and else no more than lie in it
   part-most : (a : Part) (c d : IRect) (px : List ℕ) → length px ≡ n → Cut c d

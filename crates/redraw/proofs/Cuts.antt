@@ -11,23 +11,16 @@ use mathlib.Core.Path.{_≡_, refl, sym, ap, _∙_}
 use Prim.Native.Nat.{ℕ, _≤_}
 use native.Mathlib.Omega.{arith}
 use lib.Dec.{eqb}
-use lib.IntN.{ℤ}
-use lib.Signed.{leZ}
 use Rattle.geom.specs.declared.IRect.{IRect}
-use Rattle.geom.specs.Int.{maxZ, minZ}
 use Rattle.geom.specs.Box.{meet, joinAll, hull, Holds, HoldsAll, HoldsEach, empty}
-use Rattle.geom.proofs.Int.{min-right}
-use Rattle.geom.proofs.Boxes.{in-meet, meet-left, meet-right, holds-full, hull-smallest}
+use Rattle.geom.proofs.Boxes.{in-meet, meet-left, meet-right, meet-twice, holds-full, holds-trans, hull-smallest}
 use Rattle.geom.proofs.Bools.{and-both}
 use Rattle.redraw.specs.Drawing.{Item, push, pop, shape, Clips, only, popped, after, Step, withStep, steps, Kind}
 use Rattle.draw.specs.Parts.{Part}
 use Rattle.redraw.specs.Sheet.{Format, Lawful, Sheet, Reading, refused, read, Pair, Change, other, shapes, withPair, bothShapes, change, reaches, refuses, draws, few, tooMany, canvas, sameHeader, drawsUnless, lentNumber, lent, changeIn, patchBy, patchOf, patching}
 use Rattle.redraw.specs.Ceiling.{partsMeeting, shapesMeeting}
 use Rattle.redraw.specs.Before.{wholeParts, wholeMeeting, Fewer, wholeReaches, wholeBy, wholeOf, wholePatching, Narrower, as-refused, within, Unpushed, Smaller, AsBefore}
-use Rattle.redraw.proofs.Drawn.{Edited, none, keep, swap, change-same, change-other, edited}
-
-never : _≡_ {A = ℕ} 0 1 → ⊥
-never z = omega arith
+use Rattle.redraw.proofs.Drawn.{never, Edited, none, keep, swap, change-same, change-other, edited}
 
 -- ---- the clips of the pairs
 
@@ -108,14 +101,11 @@ cut-within frame u b = record {
 }
 
 module _ {Shape : Type 0} (reach : Shape → IRect) (frame : IRect) where
-  further : {a b c : IRect} → Holds a b → Holds b c → Holds a c
-  further h k = record { holds = λ x y e. h .holds x y (k .holds x y e) }
-
   all-cut : (big : IRect) (l : List (Pair Shape)) → HoldsEach big frame (wholeReaches reach l) → HoldsEach big frame (reaches reach l)
   unfolding HoldsAll reaches wholeReaches
   all-cut big [] h = tt
   all-cut big (p ∷ l) h =
-      (further (h .0) (cut-within frame (p .0 .under) (reach (p .0 .drawn))), (further (h .1 .0) (cut-within frame (p .1 .under) (reach (p .1 .drawn))), all-cut big l (h .1 .1)))
+      (holds-trans (h .0) (cut-within frame (p .0 .under) (reach (p .0 .drawn))), (holds-trans (h .1 .0) (cut-within frame (p .1 .under) (reach (p .1 .drawn))), all-cut big l (h .1 .1)))
 
   hull-within : (l : List (Pair Shape)) → Holds (hull frame (wholeReaches reach l)) (hull frame (reaches reach l))
   hull-within l =
@@ -158,41 +148,6 @@ module _ (F : Format) where
       go (refused n k) t = as-refused n k
       go (read a) (refused n k) = as-refused n k
       go (read a) (read b) = by-header a b (sameHeader a b)
-
--- ---- a box that is cut twice by one box
-
-either : {A : Type 0} (t : Bool) (a : A) → cond t a a ≡ a
-either true a = refl
-either false a = refl
-
-max-twice : (a b : ℤ) → maxZ a (maxZ a b) ≡ maxZ a b
-unfolding maxZ
-max-twice a b = go (leZ a b) refl
-  where
-    go : (t : Bool) → leZ a b ≡ t → cond (leZ a (cond t b a)) (cond t b a) a ≡ cond t b a
-    go true p = rw p
-    go false p = either (leZ a a) a
-
-min-twice : (a b : ℤ) → minZ a (minZ a b) ≡ minZ a b
-unfolding minZ
-min-twice a b = go (leZ a b) refl
-  where
-    go : (t : Bool) → leZ a b ≡ t → cond (leZ a (cond t a b)) a (cond t a b) ≡ cond t a b
-    go true p = either (leZ a a) a
-    go false p = rw p
-
-range-twice : (c d k : ℤ) → maxZ (minZ c (maxZ (minZ c d) k)) k ≡ maxZ (minZ c d) k
-unfolding maxZ
-range-twice c d k = go (leZ (minZ c d) k) refl
-  where
-    go : (t : Bool) → leZ (minZ c d) k ≡ t → maxZ (minZ c (cond t k (minZ c d))) k ≡ cond t k (minZ c d)
-    go true p = rw (min-right c k)
-    go false p = rw (min-twice c d, p)
-
-meet-twice : (a b : IRect) → meet a (meet a b) ≡ meet a b
-unfolding meet
-meet-twice a b =
-    rw (max-twice (a .x0) (b .x0), max-twice (a .y0) (b .y0), range-twice (a .x1) (b .x1) (maxZ (a .x0) (b .x0)), range-twice (a .y1) (b .y1) (maxZ (a .y0) (b .y0)))
 
 -- ---- a sheet without a push
 

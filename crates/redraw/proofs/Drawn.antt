@@ -3,7 +3,7 @@
 --     untouched    lists of items that differ only in shapes agree on a pixel that none of those shapes reaches under its clip
 --     redrawn      drawing new items in a box on pixels that show the old ones leaves pixels that show the new ones
 -- Assumes nothing.
-use mathlib.Core.Bool.{Bool, true, false, cond, _&&_, _||_}
+use mathlib.Core.Bool.{Bool, true, false, _&&_, _||_}
 use mathlib.Core.List.{List, [], _∷_}
 use mathlib.Core.Path.{_≡_, refl, sym, ap, _∙_}
 use Prim.Native.Nat.{ℕ, zero, suc, _+_, _/_, _%_, _<_}
@@ -19,7 +19,7 @@ use Rattle.redraw.specs.Sheet.{Pair, Change, other, shapes, withPair, bo
 use Rattle.geom.proofs.Bools.{or-false, same-test}
 use Rattle.geom.proofs.Boxes.{in-meet, held-any}
 
-never : _≡_ {A = ℕ} 0 1 → ⊥
+pub never : _≡_ {A = ℕ} 0 1 → ⊥
 never z = omega arith
 
 -- ---- the first clip
