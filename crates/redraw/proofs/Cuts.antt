@@ -46,7 +46,7 @@ skip-item (pop s) u f = f
 skip-item (shape a) u f = skip _ f
 
 module _ {Shape : Type 0} (same : Item Shape → Item Shape → Bool) where
-  -- of items that differ as c says
+  -- where the items r and s differ in pairs l, as x says: the old shapes are steps of r from the clips c, the new ones steps of s from d
   abbrev Own : List (Item Shape) → List (Item Shape) → Clips → Clips → Change Shape → Type 0
   Own r s c d x = (l : List (Pair Shape)) → x ≡ shapes l → Found (olds l) (steps r c) × Found (news l) (steps s d)
 
