@@ -24,11 +24,11 @@ use Rattle.redraw.proofs.Drawn.{never, Edited, none, keep, swap, change
 
 -- ---- the clips of the pairs
 
--- a list that is found in another, in its order
-pub data Found {A : Type 0} : List A → List A → Type 0 where
-  done : Found [] []
-  skip : (a : A) {k l : List A} → Found k l → Found k (a ∷ l)
-  take : (a : A) {k l : List A} → Found k l → Found (a ∷ k) (a ∷ l)
+-- a list whose elements stand in another, in its order
+pub data Sublist {A : Type 0} : List A → List A → Type 0 where
+  done : Sublist [] []
+  skip : (a : A) {k l : List A} → Sublist k l → Sublist k (a ∷ l)
+  take : (a : A) {k l : List A} → Sublist k l → Sublist (a ∷ k) (a ∷ l)
 
 -- the old shapes of the pairs, and the new ones
 unfoldable pub olds : {Shape : Type 0} → List (Pair Shape) → List (Step Shape)
@@ -39,7 +39,7 @@ unfoldable pub news : {Shape : Type 0} → List (Pair Shape) → List (Step Shap
 news [] = []
 news (p ∷ l) = p .1 ∷ news l
 
-skip-item : {Shape : Type 0} (i : Item Shape) (u : IRect) {k l : List (Step Shape)} → Found k l → Found k (withStep i u l)
+skip-item : {Shape : Type 0} (i : Item Shape) (u : IRect) {k l : List (Step Shape)} → Sublist k l → Sublist k (withStep i u l)
 unfolding withStep
 skip-item (push s b) u f = f
 skip-item (pop s) u f = f
@@ -48,7 +48,7 @@ skip-item (shape a) u f = skip _ f
 module _ {Shape : Type 0} (same : Item Shape → Item Shape → Bool) where
   -- where the items r and s differ in pairs l, as x says: the old shapes are steps of r from the clips c, the new ones steps of s from d
   abbrev Own : List (Item Shape) → List (Item Shape) → Clips → Clips → Change Shape → Type 0
-  Own r s c d x = (l : List (Pair Shape)) → x ≡ shapes l → Found (olds l) (steps r c) × Found (news l) (steps s d)
+  Own r s c d x = (l : List (Pair Shape)) → x ≡ shapes l → Sublist (olds l) (steps r c) × Sublist (news l) (steps s d)
 
   own-pair : (a b : Shape) (r s : List (Item Shape)) (c d : Clips) (x : Change Shape) → Own r s c d x
       → Own (shape a ∷ r) (shape b ∷ s) c d (withPair (record { under = c .clip; drawn = a }) (record { under = d .clip; drawn = b }) x)
@@ -76,7 +76,7 @@ module _ {Shape : Type 0} (same : Item Shape → Item Shape → Bool) where
   own-steps (i ∷ r) (j ∷ s) c d l e = go (same i j) refl (own-steps r s (after i c) (after j d))
     where
       go : (t : Bool) → same i j ≡ t → Own r s (after i c) (after j d) (change same r s (after i c) (after j d))
-          → Found (olds l) (steps (i ∷ r) c) × Found (news l) (steps (j ∷ s) d)
+          → Sublist (olds l) (steps (i ∷ r) c) × Sublist (news l) (steps (j ∷ s) d)
       go true p f = let o = f l (sym (change-same same i j r s c d p) ∙ e) in (skip-item i (c .clip) (o .0), skip-item j (d .clip) (o .1))
       go false p f = own-both i j r s c d _ f l (sym (change-other same i j r s c d p) ∙ e)
 
