@@ -682,9 +682,8 @@ static int same_outside(struct maldjupp_reply r, const uint32_t *a, const uint32
 
 /* Patches of shapes under clips: the box is around their reaches, each cut by the clip at its place. */
 static void columns(void) {
-    enum { PATCHES = 60 };
     static uint8_t old[MOST], new[MOST];
-    static uint32_t px[W * H], fresh[W * H], before[W * H];
+    static uint32_t px[W * H], fresh[W * H];
     float none = 0;
     size_t n = banded(copper, copper, old), m = banded(brass, copper, new);
     maldjupp_paint(old, n, W, px, W * H, &none, 0);
@@ -710,9 +709,16 @@ static void columns(void) {
     check("a polyline is cut as one box", is_altered(maldjupp_patch(old, n, new, m, W, px, W * H, &none, 0), 8, 4, 14, 10, 0, 0));
     n = cornered_lines(20, old), m = cornered_lines(21, new);
     check("its lines one by one: hidden", is_altered(maldjupp_patch(old, n, new, m, W, px, W * H, &none, 0), 0, 0, 0, 0, 0, 0));
+}
 
-    size_t patched = 0, alike = 0;
-    n = wandering(0, old), maldjupp_paint(old, n, W, px, W * H, &none, 0);
+/* A list of patches of shapes that go in and out of their clips' view. */
+static void in_and_out(void) {
+    enum { PATCHES = 60 };
+    static uint8_t old[MOST], new[MOST];
+    static uint32_t px[W * H], fresh[W * H], before[W * H];
+    float none = 0;
+    size_t patched = 0, alike = 0, n = wandering(0, old), m;
+    maldjupp_paint(old, n, W, px, W * H, &none, 0);
     for (size_t k = 1; k <= PATCHES; k++) {
         m = wandering(k, new), memcpy(before, px, sizeof px);
         struct maldjupp_reply r = maldjupp_patch(old, n, new, m, W, px, W * H, &none, 0);
@@ -769,6 +775,7 @@ int main(void) {
     framed();
     bad_pitches();
     columns();
+    in_and_out();
     hidden();
     traces();
     orders();

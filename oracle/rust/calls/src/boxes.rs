@@ -1,9 +1,9 @@
 //! What a run has seen of the boxes of accepted patches, change request 2026-09: by the boxes that the library itself returned.
-use kash::geom::IRect;
+use kash::geom::{IRect, Rect};
 use sheets::{
     boxes::{differing, pushed, unclipped, wrong, WRONG},
     ceiling::area,
-    columns::is_narrow,
+    columns::{is_column, is_narrow},
     item::EMPTY,
     Item, Sheet,
 };
@@ -16,9 +16,10 @@ const HIDDEN: [&str; 3] = ["hidden, old and new", "hidden, old alone", "hidden, 
 
 #[derive(Default)]
 pub struct Boxes {
-    /// Shapes that differ in accepted patches, and those of `CLIPS` and of `HIDDEN`.
+    /// Shapes that differ in accepted patches, those of `CLIPS`, those under one to three clips of few columns, and those of `HIDDEN`.
     shapes: u64,
     narrow: [u64; CLIPS.len()],
+    columns: u64,
     hidden: [u64; HIDDEN.len()],
     /// Accepted patches whose box is that of the reaches before any clip, those of them with a push before the last shape that differs, those
     /// whose box is smaller, and those of them whose box is empty.
@@ -32,14 +33,14 @@ pub struct Boxes {
     told: [u64; WRONG.len()],
 }
 
-/// How many narrow clips are in force at each item.
-fn narrow_at(sheet: &Sheet) -> Vec<usize> {
+/// How many pushes that pass a test are in force at each item.
+fn in_force(sheet: &Sheet, test: fn(&Rect, [i32; 2]) -> bool) -> Vec<usize> {
     let sides = [sheet.w as i32, sheet.h as i32];
     let (mut saved, mut at) = (Vec::<bool>::new(), vec![]);
     for (item, _) in &sheet.items {
-        at.push(saved.iter().filter(|narrow| **narrow).count());
+        at.push(saved.iter().filter(|passes| **passes).count());
         match item {
-            Item::Push(rect) => saved.push(is_narrow(rect, sides)),
+            Item::Push(rect) => saved.push(test(rect, sides)),
             Item::Pop => _ = saved.pop(),
             _ => (),
         }
@@ -62,12 +63,13 @@ fn hiding(reaches: [IRect; 2], clip: IRect, canvas: IRect) -> Option<usize> {
 impl Boxes {
     fn pairs(&mut self, sheets: &[Sheet; 2]) {
         let [old, new] = sheets;
-        let (narrow, clips) = (narrow_at(new), new.clips());
+        let (narrow, columns, clips) = (in_force(new, is_narrow), in_force(new, is_column), new.clips());
         for i in differing(sheets) {
             self.shapes += 1;
             if (1..=CLIPS.len()).contains(&narrow[i]) {
                 self.narrow[narrow[i] - 1] += 1;
             }
+            self.columns += (1..=CLIPS.len()).contains(&columns[i]) as u64;
             if let Some(which) = hiding([old.items[i].0.reach(), new.items[i].0.reach()], clips[i], new.canvas()) {
                 self.hidden[which] += 1;
             }
@@ -97,6 +99,7 @@ impl Boxes {
         let under: u64 = self.narrow.iter().sum();
         if told {
             println!("boxes: {} shapes differ in accepted patches, {under} of them under one to three narrow clips", self.shapes);
+            println!("boxes: {} of all that differ under one to three clips of few columns", self.columns);
             for (name, times) in CLIPS.iter().zip(self.narrow).chain(HIDDEN.iter().zip(self.hidden)) {
                 println!("boxes: shapes {name:40} {times:>9}");
             }
@@ -111,9 +114,10 @@ impl Boxes {
         let each = patches.into_iter().chain(HIDDEN.iter().zip(self.hidden).map(|(name, times)| (*name, times, 1_000)));
         let seldom = each.filter(|(_, times, one_in)| *times < calls / one_in);
         let seldom = seldom.inspect(|(name, times, one_in)| println!("{name}: {times} times, less than once in {one_in} calls")).count();
-        let few = 3 * under < self.shapes || self.narrow.contains(&0);
+        let few = 3 * self.columns < self.shapes || self.narrow.contains(&0);
         if few {
-            println!("{:?} of {} differing shapes stand under one, two and three narrow clips", self.narrow, self.shapes);
+            let (columns, narrow, shapes) = (self.columns, self.narrow, self.shapes);
+            println!("{columns} of {shapes} differing shapes stand under few columns, {narrow:?} under one, two and three narrow clips");
         }
         let never = WRONG.iter().zip(self.told).filter(|(_, times)| *times == 0);
         let never = never.inspect(|(name, _)| println!("no patch has another box with {name}")).count();

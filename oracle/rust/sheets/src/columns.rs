@@ -9,11 +9,16 @@ use kash::geom::{IRect, Rect};
 /// The most columns, or rows, of a narrow clip.
 pub const NARROW: i32 = 4;
 
-/// Whether a push has one to four columns or rows, fewer than the canvas has.
-pub fn is_narrow(rect: &Rect, [w, h]: [i32; 2]) -> bool {
+/// Whether a push has one to four columns, fewer than the canvas has.
+pub fn is_column(rect: &Rect, [w, _]: [i32; 2]) -> bool {
     let pushed = IRect::from_rect_outer(rect);
-    let few = |side: i32, all: i32| side <= NARROW && side < all;
-    !pushed.is_empty() && (few(pushed.w(), w) || few(pushed.h(), h))
+    !pushed.is_empty() && pushed.w() <= NARROW && pushed.w() < w
+}
+
+/// Whether a push has one to four columns or rows, fewer than the canvas has.
+pub fn is_narrow(rect: &Rect, sides: [i32; 2]) -> bool {
+    let pushed = IRect::from_rect_outer(rect);
+    is_column(rect, sides) || !pushed.is_empty() && pushed.h() <= NARROW && pushed.h() < sides[1]
 }
 
 /// Few columns, or rows, that have one at least in common with those from a place to another; now and then they lie just past them.

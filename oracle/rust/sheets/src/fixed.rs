@@ -122,7 +122,7 @@ pub struct Patch {
     pub area: [i32; 4],
 }
 
-pub fn patches() -> Vec<Patch> {
+fn examples() -> Vec<Patch> {
     let mut all = vec![];
     let mut add = |old: Vec<u8>, new: Vec<u8>, px, scratch, number, item, area| {
         all.push(Patch { pitch: width(&new), old, new, px, scratch, number, item, area });
@@ -165,10 +165,12 @@ pub fn patches() -> Vec<Patch> {
     add(many(33, 0.0, 0.0), many(33, 2.0, 0.0), 3, 0, 14, 0, [0; 4]);
     let triangle = |x: f32| made(4, 4, vec![polygon(&[-1994.0, 1.0, x, 1.0, x, 1999.0], RED)]).bytes();
     add(triangle(4.5), triangle(5.0), 16, 0, 0, 0, [0; 4]);
-    all.extend(fixed_chains::patches());
-    all.extend(fixed_clips::patches());
-    all.extend(fixed_frames::patches());
     all
+}
+
+/// Those of document 01 and request 2026-01, and the edges of the requests after it, with number, item and box.
+pub fn patches() -> Vec<Patch> {
+    [examples(), fixed_chains::patches(), fixed_clips::patches(), fixed_frames::patches()].into_iter().flatten().collect()
 }
 
 /// Holds the reading to document 01's examples before anything is compared with it.
