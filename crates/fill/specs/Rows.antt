@@ -1,4 +1,5 @@
--- How the rows of a filled rectangle are cut into rim, middle and rim.
+-- How the rows of a filled rectangle are cut into rim, middle and rim, and what their columns share. No call of the library cites
+-- this file: the loops of a row do.
 use mathlib.Core.Bool.{Bool, true, false}
 use mathlib.Core.Path.{_≡_}
 use Prim.Native.Nat.{ℕ, _≤_, _<_, min, max}
@@ -11,7 +12,7 @@ use Rattle.geom.specs.Int.{up}
 use Rattle.geom.specs.Plane.{cyOf}
 use Rattle.draw.specs.Areas.{within}
 use Rattle.paints.specs.Paints.{cov8Of}
-use Rattle.paints.specs.Edges.{Sure}
+use Rattle.paints.specs.Edges.{edgeOf}
 use Rattle.fill.specs.declared.Ends.{Ends}
 use Rattle.fill.specs.declared.Round.{Round}
 use Rattle.fill.specs.declared.Level.{Level}
@@ -21,9 +22,9 @@ use Rattle.fill.specs.Fill.{leOf, rsOf, middle}
 unfoldable pub endsOf : Bool → Rect → Float → Ends
 endsOf corner rect r = record { le = up (toI32 (leOf corner rect r)); rs = up (toI32 (rsOf corner rect r)) }
 
--- a rectangle's edge is sure, and its ends are those of its rows
+-- a rectangle's edge is that of its radius, and its ends are those of its rows
 pub record Ready (s : Round) : Type 0 where
-  pub sure : Sure (s .edge .r) (s .edge)
+  pub own : s .edge ≡ edgeOf (s .edge .r)
   pub bent : s .bent ≡ endsOf true (s .rect) (s .edge .r)
   pub straight : s .straight ≡ endsOf false (s .rect) (s .edge .r)
 

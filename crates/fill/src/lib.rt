@@ -1,5 +1,5 @@
-// Filled rectangles and circles, as gfx.rs fills them: the rims of each row by distance, its middle whole. What draws returns how many pixels'
-// values it altered.
+// Filled rectangles and circles, as gfx.rs fills them: the rims of each row by distance, its middle whole. What draws returns how
+// many pixels' values it altered.
 use color::Color;
 use color::blend_c;
 use color::over;
@@ -33,7 +33,7 @@ ghost use Rattle.draw.specs.Areas.{RowFits, AreaFits, DrewRow, DrewIn};
 ghost use Rattle.gfx.specs.Calls.{ShapeCalled, pxNumber};
 ghost use Rattle.paints.specs.declared.Paint.the-variants.{Solid, Linear};
 ghost use Rattle.paints.specs.Paints.{paintAt, centreOf};
-ghost use Rattle.paints.specs.Edges.{Sure};
+ghost use Rattle.paints.specs.Edges.{edgeOf};
 ghost use Rattle.fill.specs.Fill.{fillReach, edgeRow, cornerRow, coverOf, rimInk, middleInk, roundInk, fillInk};
 ghost use Rattle.fill.specs.Fill.{Filled, rrectFloats, rectFloats, circleFloats};
 ghost use Rattle.paints.specs.Paints.{circleRect};
@@ -179,7 +179,7 @@ fn level_of(rect: Rect, r: f32, y: usize) -> Level
 
 // The coverage of a point of such a row, whose corners have the edge e.
 fn level_cover(rect: Rect, e: Edge, l: Level, xc: f32) -> u32
-    ensures { λ n. ⌜ ((yc : Float) → Sure (e .r) e → LevelOf rect (e .r) yc l → n ≡ coverOf rect (e .r) xc yc) ⌝ }
+    ensures { λ n. ⌜ ((yc : Float) → e ≡ edgeOf (e .r) → LevelOf rect (e .r) yc l → n ≡ coverOf rect (e .r) xc yc) ⌝ }
 {
     let qx = past(xc, rect.cx(), rect.w * 0.5, e.r);
     e.beside(qx, l.qy, l.level)
@@ -207,7 +207,7 @@ fn rim(
     l: Level,
     paint: Paint,
 ) -> u32
-    requires { ⌜ RowFits pitch y x0 x1 (length (now px)) × Sure (e .r) e × LevelOf rect (e .r) (centreOf y) l ⌝ }
+    requires { ⌜ RowFits pitch y x0 x1 (length (now px)) × (e ≡ edgeOf (e .r)) × LevelOf rect (e .r) (centreOf y) l ⌝ }
     ensures { λ n. ⌜ DrewRow pitch y x0 x1 (rimInk rect (e .r) paint) (now (px .entry)) n (now (px .exit)) ⌝ }
 {
     let row = y * pitch;

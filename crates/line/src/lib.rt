@@ -1,5 +1,5 @@
-// Lines with round ends, as gfx.rs draws them: each pixel by its distance to the segment. What draws returns how many of its steps altered a
-// pixel's value.
+// Lines with round ends, as gfx.rs draws them: each pixel by its distance to the segment. What draws returns how many of its
+// steps altered a pixel's value.
 use color::Color;
 use color::blend_c;
 use draw::Area;
@@ -25,7 +25,7 @@ ghost use Rattle.draw.specs.Parts.{reachAll};
 ghost use Rattle.draw.specs.Areas.{clipTo, RowFits, AreaFits, Drew, DrewRow, DrewIn};
 ghost use Rattle.gfx.specs.Calls.{CalledCounted, ShapeCalled, shapeNumber};
 ghost use Rattle.gfx.specs.Points.{pointsNumber};
-ghost use Rattle.paints.specs.Edges.{Sure};
+ghost use Rattle.paints.specs.Edges.{edgeOf};
 ghost use Rattle.line.specs.Lines.{absOf, lineReach, segmentOf, coverOf, segmentInk, lineInk, lineOk};
 ghost use Rattle.line.specs.Polylines.{pointAt, polylined, polylineSteps, chainOf, DrewLines};
 
@@ -81,7 +81,7 @@ fn segment_of(a: Pt, b: Pt, width: f32) -> Segment
 
 // The coverage of a pixel by its centre; e is the edge at half the width.
 fn cover(s: Segment, e: Edge, xc: f32, yc: f32) -> u32
-    requires { ⌜ Sure (s .hw) e ⌝ }
+    requires { ⌜ e ≡ edgeOf (s .hw) ⌝ }
     ensures { λ r. ⌜ r ≡ coverOf s xc yc ⌝ }
 {
     let a = s.a;
@@ -103,7 +103,7 @@ fn segment_row(
     color: Color,
 ) -> u32
     requires { ⌜ RowFits pitch y x0 x1 (length (now px)) ⌝ }
-    requires { ⌜ Sure (s .hw) e ⌝ }
+    requires { ⌜ e ≡ edgeOf (s .hw) ⌝ }
     ensures { λ n. ⌜ DrewRow pitch y x0 x1 (segmentInk s color) (now (px .entry)) n (now (px .exit)) ⌝ }
 {
     let row = y * pitch;
@@ -125,7 +125,7 @@ fn segment_row(
 // The pixels of an area, row by row.
 fn segment_box(px: &mut [u32], pitch: usize, bb: Area, s: Segment, e: Edge, color: Color) -> u32
     requires { ⌜ AreaFits pitch bb (length (now px)) ⌝ }
-    requires { ⌜ Sure (s .hw) e ⌝ }
+    requires { ⌜ e ≡ edgeOf (s .hw) ⌝ }
     ensures { λ n. ⌜ DrewIn pitch bb (segmentInk s color) (now (px .entry)) n (now (px .exit)) ⌝ }
 {
     let x0 = bb.x0;
@@ -207,8 +207,8 @@ fn point(pts: &[f32], i: usize) -> Pt
     }
 }
 
-// The smallest box around the reaches of the lines between successive points, from the last line to the first; four zeros where no line
-// reaches a pixel.
+// The smallest box around the reaches of the lines between successive points, from the last line to the first; four zeros where
+// no line reaches a pixel.
 pub fn polyline_reach(pts: &[f32], width: f32) -> IRect
     ensures { λ r. ⌜ ((c : Color) → r ≡ reachAll (chainOf (now (pts .entry)) width c)) ⌝ }
 {

@@ -5,10 +5,11 @@
 --     cover-none, cover-full    the coverage by the squared distance
 --     squares                   a sum of two squares is not below 0, or a NaN
 --     outside-at, inside-at     what a test of one number gives
+--     edge-cover, edge-beside   the coverage by the edge of a radius is that with the root
 -- Assumes nothing.
 use mathlib.Core.Path.{_≡_, refl, sym, ap, subst, _∙_}
 use mathlib.Core.Logic.{_⊎_, inl, inr}
-use mathlib.Core.Bool.{Bool, true, false, not, cond}
+use mathlib.Core.Bool.{Bool, true, false, not, cond, _&&_}
 use Prim.Native.Nat.{ℕ, zero, suc, _+_, _*_, _<_, _≤_}
 use native.Mathlib.Nat.{le-antisymm, mul-pos, zero-mul, zero-lt-suc}
 use native.Mathlib.Omega.{arith}
@@ -17,18 +18,19 @@ use lib.IntN.{ℤ, pos, negsuc}
 use lib.Ieee.{Float, nan, inf, fin, binary32, ofBits, up, down, below, round, add, sub, mul, div, neg, lt, eq, le, isNan, fits, toUnsigned}
 use lib.Pow.{pow-pos}
 use lib.Ieee.Bits.{is-true}
-use lib.Ieee.Fits.{down-pos, add-fits}
+use lib.Ieee.Fits.{down-pos, add-fits, mul-fits}
 use lib.Ieee.Scale.{finite}
-use Rattle.mathf.specs.F32.{_+ᶠ_, _-ᶠ_, _*ᶠ_, _/ᶠ_, _≤ᶠ_, f0, f½}
-use Rattle.mathf.specs.Order.{clampOf}
+use Rattle.mathf.specs.F32.{_+ᶠ_, _-ᶠ_, _*ᶠ_, _/ᶠ_, _<ᶠ_, _≤ᶠ_, f0, f½}
+use Rattle.mathf.specs.Order.{maxOf, clampOf}
 use Rattle.mathf.specs.Convert.{toU32}
 use Rattle.mathf.specs.Root.{sqrtOf}
 use Rattle.mathf.proofs.Compared.{AtMost, from-at-most, le-same, le-through, or-l, above-zero}
 use Rattle.mathf.proofs.Monotone.{round-order, add-mono, sub-mono, mul-mono, sqrt-mono, unsigned-mono}
 use Rattle.mathf.proofs.Saturating.{passed}
+use Rattle.geom.proofs.Bools.{split}
 use Rattle.paints.specs.declared.edges.Edge.{Edge}
-use Rattle.paints.specs.Paints.{cov8Of}
-use Rattle.paints.specs.Edges.{Outside, Inside, Sure}
+use Rattle.paints.specs.Paints.{cov8Of, cornerSd}
+use Rattle.paints.specs.Edges.{f0·51, farOf, nearOf, edgeOf, edgeCover, besideOf}
 
 abbrev z0 : Float
 z0 = fin false 0 (pos 0)
@@ -346,6 +348,14 @@ squares (inf s) (fin t n d) k h = sum-plus _ _ (square (inf s) tt) (square (fin 
 squares (fin s m e) (inf t) k h = sum-plus _ _ (square (fin s m e) tt) (square (inf t) tt)
 squares (fin s m e) (fin t n d) k h = sum-plus _ _ (square (fin s m e) tt) (square (fin t n d) tt)
 
+-- ---- from the squared distance k on, an edge at the distance r covers nothing
+unfoldable pub Outside : Float → Float → Type 0
+Outside r k = (d : Float) → T (fits binary32 d) → (k ≤ᶠ d) ≡ true → cov8Of (sqrtOf d -ᶠ r) ≡ 0
+
+-- up to k it covers all
+unfoldable pub Inside : Float → Float → Type 0
+Inside r k = (d : Float) → T (fits binary32 d) → (f0 ≤ᶠ d) ≡ true → (d ≤ᶠ k) ≡ true → cov8Of (sqrtOf d -ᶠ r) ≡ 255
+
 -- ---- as the code tests a number; where the test fails it has a NaN, beyond which nothing lies
 pub outside-at : (k r : Float) → T (fits binary32 k) → (f½ ≤ᶠ sqrtOf k -ᶠ r) ≡ true → Outside r k
 unfolding Outside ofBits
@@ -375,14 +385,47 @@ pub inside-none : (r : Float) → Inside r (f0 /ᶠ f0)
 unfolding Inside
 inside-none r = λ d g z h. absurd (nan-high d (f0 /ᶠ f0) no-number (passed h))
 
--- the coverage of a point by the sum of the squares of its distances across and down
-pub far-cover : (e : Edge) (x y : Float) → Sure (e .r) e → (e .far ≤ᶠ x *ᶠ x +ᶠ y *ᶠ y) ≡ true → 0 ≡ cov8Of (sqrtOf (x *ᶠ x +ᶠ y *ᶠ y) -ᶠ e .r)
+-- the two squared distances of an edge are such
+far-sure : (r : Float) → Outside r (farOf r)
+unfolding farOf
+far-sure r =
+    let e = r +ᶠ f0·51 in
+    split (f½ ≤ᶠ sqrtOf (e *ᶠ e) -ᶠ r) (λ t. Outside r (cond t (e *ᶠ e) (f0 /ᶠ f0))) (λ h. outside-at (e *ᶠ e) r (mul-fits binary32 e e) h) (λ h. outside-none r)
+
+near-sure : (r : Float) → Inside r (nearOf r)
+unfolding nearOf
+near-sure r =
+    let e = maxOf (r -ᶠ f0·51) f0 in
+    split (sqrtOf (e *ᶠ e) -ᶠ r ≤ᶠ neg f½) (λ t. Inside r (cond t (e *ᶠ e) (f0 /ᶠ f0))) (λ h. inside-at (e *ᶠ e) r (mul-fits binary32 e e) h) (λ h. inside-none r)
+
+-- ---- the coverage of a point by the sum of the squares of its distances across and down
+far-cover : (r x y : Float) → (farOf r ≤ᶠ x *ᶠ x +ᶠ y *ᶠ y) ≡ true → 0 ≡ cov8Of (sqrtOf (x *ᶠ x +ᶠ y *ᶠ y) -ᶠ r)
 unfolding Outside
-far-cover e x y s h = sym (s .outside (x *ᶠ x +ᶠ y *ᶠ y) (add-fits binary32 _ _) h)
+far-cover r x y h = sym (far-sure r (x *ᶠ x +ᶠ y *ᶠ y) (add-fits binary32 _ _) h)
 
-pub near-cover : (e : Edge) (x y : Float) → Sure (e .r) e → (x *ᶠ x +ᶠ y *ᶠ y ≤ᶠ e .near) ≡ true → 255 ≡ cov8Of (sqrtOf (x *ᶠ x +ᶠ y *ᶠ y) -ᶠ e .r)
+near-cover : (r x y : Float) → (x *ᶠ x +ᶠ y *ᶠ y ≤ᶠ nearOf r) ≡ true → 255 ≡ cov8Of (sqrtOf (x *ᶠ x +ᶠ y *ᶠ y) -ᶠ r)
 unfolding Inside ofBits
-near-cover e x y s h = let d = x *ᶠ x +ᶠ y *ᶠ y in sym (s .inside d (add-fits binary32 _ _) (is-true (le z0 d) (squares x y (e .near) (passed h))) h)
+near-cover r x y h =
+    let d = x *ᶠ x +ᶠ y *ᶠ y in
+    sym (near-sure r d (add-fits binary32 _ _) (is-true (le z0 d) (squares x y (nearOf r) (passed h))) h)
 
-pub own : {r : Float} {e : Edge} → Sure r e → Sure (e .r) e
-own {r} {e} s = subst (λ (k : Float). Sure k e) (sym (s .same)) s
+own-cover : (r x y : Float) → edgeCover (edgeOf r) x y ≡ cov8Of (sqrtOf (x *ᶠ x +ᶠ y *ᶠ y) -ᶠ r)
+unfolding edgeCover
+own-cover r x y =
+    let d = x *ᶠ x +ᶠ y *ᶠ y in
+    let v = cov8Of (sqrtOf d -ᶠ r) in
+    split (farOf r ≤ᶠ d) (λ t. cond t 0 (cond (d ≤ᶠ nearOf r) 255 v) ≡ v) (λ h. far-cover r x y h)
+    (λ _. split (d ≤ᶠ nearOf r) (λ t. cond t 255 v ≡ v) (λ h. near-cover r x y h) (λ _. refl))
+
+-- of the edge of a radius they are the coverage with the root
+module _ (e : Edge) (r : Float) (own : e ≡ edgeOf r) where
+  pub edge-cover : (x y : Float) → edgeCover e x y ≡ cov8Of (sqrtOf (x *ᶠ x +ᶠ y *ᶠ y) -ᶠ r)
+  edge-cover x y = ap (λ (k : Edge). edgeCover k x y) own ∙ own-cover r x y
+
+  pub edge-beside : (x y : Float) (level : ℕ) → level ≡ cov8Of (y -ᶠ r) → besideOf e x y level ≡ cov8Of (cornerSd x y r)
+  unfolding besideOf cornerSd
+  edge-beside x y level h =
+      split ((f0 <ᶠ x) && (f0 <ᶠ y))
+      (λ t. cond t (edgeCover e x y) (cond (y <ᶠ x) (cov8Of (x -ᶠ e .r)) level) ≡ cov8Of (cond t (sqrtOf (x *ᶠ x +ᶠ y *ᶠ y) -ᶠ r) (cond (y <ᶠ x) (x -ᶠ r) (y -ᶠ r))))
+      (λ _. edge-cover x y)
+      (λ _. split (y <ᶠ x) (λ t. cond t (cov8Of (x -ᶠ e .r)) level ≡ cov8Of (cond t (x -ᶠ r) (y -ᶠ r))) (λ _. ap (λ (k : Edge). cov8Of (x -ᶠ k .r)) own) (λ _. h))

@@ -1,2 +1,3 @@
--- The laws of coverage that belong to no one function.
+-- The laws of coverage and of colours that belong to no one function.
 pub mod Covers
+pub mod Colours

@@ -1,4 +1,5 @@
--- Paints, coverage and the distance to a rounded rectangle: formulas of gfx.rs, each f32 operation rounded once in the order written.
+-- Paints, coverage and the distance to a rounded rectangle: formulas of gfx.rs, each f32 operation rounded once in the order
+-- written.
 use mathlib.Core.Bool.{Bool, true, cond, _&&_}
 use Prim.Native.Nat.{ℕ}
 use lib.Ieee.{Float}
@@ -37,6 +38,14 @@ paintAt (Solid c) x y = c
 paintAt (VGrad y0 y1 c0 c1) x y = mixOf c0 c1 (alongDown y0 y1 y)
 paintAt (Linear p0 p1 c0 c1) x y = mixOf c0 c1 (alongLine p0 p1 x y)
 paintAt (Radial c r c0 c1) x y = mixOf c0 c1 (alongRadius c r x y)
+
+-- the paint as the points of the row y have it: a vertical gradient has one colour there. No call cites it: `paintAt` gives the
+-- same colours in the row (proofs/Colours, `row-colour`)
+unfoldable pub rowPaint : Paint → Float → Paint
+rowPaint (Solid c) y = Solid c
+rowPaint (VGrad y0 y1 c0 c1) y = Solid (mixOf c0 c1 (alongDown y0 y1 y))
+rowPaint (Linear p0 p1 c0 c1) y = Linear p0 p1 c0 c1
+rowPaint (Radial c r c0 c1) y = Radial c r c0 c1
 
 -- every float of a paint is finite and within 8,192 of 0
 unfoldable pub paintOk : Paint → Bool

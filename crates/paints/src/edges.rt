@@ -2,12 +2,11 @@
 use crate::both_positive;
 use crate::cov8;
 ghost use mathlib.Core.Path.{_≡_};
-ghost use Rattle.mathf.specs.F32.{_+ᶠ_, _-ᶠ_, _*ᶠ_};
-ghost use Rattle.mathf.specs.Root.{sqrtOf};
-ghost use Rattle.paints.specs.Paints.{cov8Of, cornerSd};
-ghost use Rattle.paints.specs.Edges.{Outside, Inside, Sure};
+ghost use Rattle.paints.specs.Paints.{cov8Of};
+ghost use Rattle.paints.specs.Edges.{farOf, nearOf, edgeOf, edgeCover, besideOf};
 
-// An edge at the distance r. From the squared distance `far` on it covers nothing, and up to `near` all; a NaN where none was found.
+// An edge at the distance r. From the squared distance `far` on it covers nothing, and up to `near` all; a NaN where none was
+// found.
 pub struct Edge {
     pub r: f32,
     pub far: f32,
@@ -16,7 +15,7 @@ pub struct Edge {
 
 // A squared distance just over half a pixel outside.
 fn far_of(r: f32) -> f32
-    ensures { λ k. ⌜ Outside r k ⌝ }
+    ensures { λ k. ⌜ k ≡ farOf r ⌝ }
 {
     let e = r + 0.51;
     let k = e * e;
@@ -29,7 +28,7 @@ fn far_of(r: f32) -> f32
 
 // A squared distance just over half a pixel inside.
 fn near_of(r: f32) -> f32
-    ensures { λ k. ⌜ Inside r k ⌝ }
+    ensures { λ k. ⌜ k ≡ nearOf r ⌝ }
 {
     let e = mathf::max(r - 0.51, 0.0);
     let k = e * e;
@@ -55,7 +54,7 @@ pub fn side_cover(d: f32) -> u32
 
 impl Edge {
     pub fn of(r: f32) -> Edge
-        ensures { λ e. ⌜ Sure r e ⌝ }
+        ensures { λ e. ⌜ e ≡ edgeOf r ⌝ }
     {
         Edge {
             r,
@@ -66,7 +65,7 @@ impl Edge {
 
     // The coverage of a point that lies dx across and dy down.
     pub fn cover(self, dx: f32, dy: f32) -> u32
-        ensures { λ n. ⌜ (Sure (self .r) self → n ≡ cov8Of (sqrtOf (dx *ᶠ dx +ᶠ dy *ᶠ dy) -ᶠ self .r)) ⌝ }
+        ensures { λ n. ⌜ n ≡ edgeCover self dx dy ⌝ }
     {
         let d = dx * dx + dy * dy;
         if self.far <= d {
@@ -78,10 +77,10 @@ impl Edge {
         cov8(mathf::sqrt(d) - self.r)
     }
 
-    // The coverage by a rounded rectangle, from how far a point is past the straight parts of the sides; `level` is that of its row
-    // beside the corners.
+    // The coverage by a rounded rectangle, from how far a point is past the straight parts of the sides; `level` is that of its
+    // row beside the corners.
     pub fn beside(self, qx: f32, qy: f32, level: u32) -> u32
-        ensures { λ n. ⌜ (Sure (self .r) self → level ≡ cov8Of (qy -ᶠ self .r) → n ≡ cov8Of (cornerSd qx qy (self .r))) ⌝ }
+        ensures { λ n. ⌜ n ≡ besideOf self qx qy level ⌝ }
     {
         if both_positive(qx, qy) {
             self.cover(qx, qy)

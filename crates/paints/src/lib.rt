@@ -10,10 +10,9 @@ use geom::float_ok;
 use geom::floats_ok;
 ghost use mathlib.Core.Path.{_≡_};
 ghost use mathlib.Core.Bool.{_&&_};
-ghost use lib.Ieee.{Float};
 ghost use Rattle.geom.specs.Plane.{floatOk, ptOk};
 ghost use Rattle.mathf.specs.F32.{_<ᶠ_, f0};
-ghost use Rattle.paints.specs.Paints.{alongDown, alongLine, alongRadius, paintAt, paintOk, centreOf, radiusOf, cornerSd, rrectSd, roundedOf, roundedSd, cov8Of};
+ghost use Rattle.paints.specs.Paints.{alongDown, alongLine, alongRadius, paintAt, rowPaint, paintOk, centreOf, radiusOf, cornerSd, rrectSd, roundedOf, roundedSd, cov8Of};
 
 // What a shape is filled with.
 pub enum Paint {
@@ -90,11 +89,13 @@ impl Paint {
 
     // The paint as the points of a row have it: a vertical gradient has one colour there.
     pub fn in_row(self, y: f32) -> Paint
-        ensures { λ p. ⌜ ((x : Float) → paintAt p x y ≡ paintAt self x y) ⌝ }
+        ensures { λ p. ⌜ p ≡ rowPaint self y ⌝ }
     {
         match self {
+            Paint::Solid(c) => Paint::Solid(c),
             Paint::VGrad { y0, y1, c0, c1 } => Paint::Solid(c0.mix(c1, along_down(y0, y1, y))),
-            _ => self,
+            Paint::Linear { p0, p1, c0, c1 } => Paint::Linear { p0, p1, c0, c1 },
+            Paint::Radial { c, r, c0, c1 } => Paint::Radial { c, r, c0, c1 },
         }
     }
 

@@ -1,6 +1,7 @@
 -- `fill::fill_row` meets its contract. Assumes nothing.
 use Rattle.draw.proofs.Loops.{drew-as}
 use Rattle.draw.proofs.Rows.{row-same}
+use Rattle.paints.proofs.Colours.{row-colour}
 use Rattle.fill.proofs.Parts.{same-paint}
 use borrow.Author.Needs.{needs}
 use Rattle.fill.proofs.fill_row.Statement.{statement}
@@ -27,7 +28,7 @@ returns c =
     let h = d .before .before in
     let y = h .before in
     drew-as (d .row-parts .ensures)
-    (row-same _ _ _ _ _ _ _ (λ x p _ _. same-paint _ _ _ _ _ (rw (y .centre .ensures) at (h .in-row .ensures)) x p))
+    (row-same _ _ _ _ _ _ _ (λ x p _ _. same-paint _ _ _ _ _ (λ k. rw (h .in-row .ensures, y .centre .ensures) (row-colour _ k _)) x p))
 
 pub fill-row-spec : {M : Type 1} → statement M
 fill-row-spec =

@@ -2,6 +2,7 @@
 use mathlib.Core.Path.{_∙_}
 use borrow.Author.Needs.{needs}
 use Rattle.paints.specs.Paints.{rrectSd}
+use Rattle.paints.proofs.Covers.{edge-beside}
 use Rattle.fill.specs.Fill.{coverOf}
 use Rattle.fill.proofs.level_cover.Statement.{statement}
 use Rattle.fill.proofs.level_cover.Tie as tie
@@ -17,8 +18,8 @@ beside-requires c κs = search needs
 
 returns : tie.Need-returns
 unfolding coverOf rrectSd
-returns c = λ yc sure k.
-    c .beside .ensures sure (k .covered) ∙ rw (k .past, c .before .past .ensures, c .before .before .before .cx .ensures)
+returns c = λ yc own k.
+    c .beside .ensures ∙ edge-beside _ _ own _ _ _ (k .covered) ∙ rw (k .past, c .before .past .ensures, c .before .before .before .cx .ensures)
 
 pub level-cover-spec : {M : Type 1} → statement M
 level-cover-spec = tie.close (tie.spec cx-requires past-requires beside-requires returns)

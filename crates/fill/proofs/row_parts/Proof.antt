@@ -12,7 +12,7 @@ level-of-requires : tie.Need-level-of-requires
 level-of-requires c κs = search needs
 
 rim-requires : tie.Need-rim-requires
-rim-requires c κs = let l = c .before in let st = l .before .before .before .before .before in (search needs, st .pre .1 .sure, l .level-of .ensures)
+rim-requires c κs = let l = c .before in let st = l .before .before .before .before .before in (search needs, st .pre .1 .own, l .level-of .ensures)
 
 middle-span-requires : tie.Need-middle-span-requires
 middle-span-requires c κs = search needs
@@ -20,7 +20,7 @@ middle-span-requires c κs = search needs
 rim-requires-2 : tie.Need-rim-requires-2
 rim-requires-2 c κs =
     let l = c .before .before .before .before .before .before .before .before .before in
-    (search needs, l .before .before .before .before .before .pre .1 .sure, l .level-of .ensures)
+    (search needs, l .before .before .before .before .before .pre .1 .own, l .level-of .ensures)
 
 -- the three counts fit beside each other
 add-result : tie.Need-add-result

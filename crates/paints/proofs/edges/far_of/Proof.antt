@@ -1,8 +1,6 @@
 -- `paints::edges::far_of` meets its contract. Assumes nothing.
 use borrow.Author.Needs.{needs}
-use lib.Ieee.{binary32}
-use lib.Ieee.Fits.{mul-fits}
-use Rattle.paints.proofs.Covers.{outside-at, outside-none}
+use Rattle.paints.specs.Edges.{farOf}
 use Rattle.paints.proofs.edges.far_of.Statement.{statement}
 use Rattle.paints.proofs.edges.far_of.Tie as tie
 
@@ -10,10 +8,12 @@ sqrt-requires : tie.Need-sqrt-requires
 sqrt-requires c κs = search needs
 
 returns : tie.Need-returns
-returns c = outside-at _ _ (mul-fits binary32 _ _) (rw (c .before .sqrt .ensures) at (c .if1 .taken))
+unfolding farOf
+returns c = rw (rw (c .before .sqrt .ensures) at (c .if1 .taken))
 
 returns-2 : tie.Need-returns-2
-returns-2 c = outside-none _
+unfolding farOf
+returns-2 c = rw (rw (c .before .sqrt .ensures) at (c .if1 .left))
 
 pub far-of-spec : {M : Type 1} → statement M
 far-of-spec = tie.close (tie.spec sqrt-requires returns returns-2)

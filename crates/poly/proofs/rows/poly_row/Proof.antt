@@ -5,6 +5,7 @@ use native.Mathlib.Omega.{arith}
 use lib.ListN.{length}
 use Rattle.draw.proofs.Loops.{drew-as}
 use Rattle.draw.proofs.Rows.{row-same}
+use Rattle.paints.proofs.Colours.{row-colour}
 use Rattle.bounds.proofs.Signs.{back}
 use Rattle.poly.specs.Poly.{offsetOf, inkIn}
 use Rattle.poly.specs.Rooms.{inkFrom}
@@ -72,7 +73,7 @@ returns c =
     let skip = offsetOf (at .x0) (at .g .ox) in
     drew-as (d .sum-row .ensures)
     (rw (skip-at p, row-at (p .before))
-    (row-same (at .pitch) (inkFrom acc ls skip (at .x0) (h .in-row .result)) (inkIn acc (at .g) (at .paint)) (at .px .now) (at .x0) (at .x1) (at .y) (λ x q l u. ink-in acc (at .g) (h .in-row .result) (at .paint) (at .x0) (at .y) x q (s .pre .1 .2 .from) l (rw (h .before .centre .ensures) at (h .in-row .ensures)))))
+    (row-same (at .pitch) (inkFrom acc ls skip (at .x0) (h .in-row .result)) (inkIn acc (at .g) (at .paint)) (at .px .now) (at .x0) (at .x1) (at .y) (λ x q l u. ink-in acc (at .g) (h .in-row .result) (at .paint) (at .x0) (at .y) x q (s .pre .1 .2 .from) l (λ k. rw (h .in-row .ensures, h .before .centre .ensures) (row-colour (at .paint) k _)))))
 
 pub poly-row-spec : {M : Type 1} → statement M
 poly-row-spec =

@@ -1,6 +1,6 @@
 -- `paints::edges::Edge::beside` meets its contract. Assumes nothing.
 use borrow.Author.Needs.{needs}
-use Rattle.paints.specs.Paints.{cornerSd}
+use Rattle.paints.specs.Edges.{besideOf}
 use Rattle.paints.proofs.edges.Edge.beside.Statement.{statement}
 use Rattle.paints.proofs.edges.Edge.beside.Tie as tie
 
@@ -14,16 +14,18 @@ side-cover-requires : tie.Need-side-cover-requires
 side-cover-requires c κs = search needs
 
 returns : tie.Need-returns
-unfolding cornerSd
-returns c = λ sure same. rw (← (c .before .before .both-positive .ensures), c .before .if1 .taken) (c .cover .ensures sure)
+unfolding besideOf
+returns c = rw (← (c .before .before .both-positive .ensures), c .before .if1 .taken) (c .cover .ensures)
 
 returns-2 : tie.Need-returns-2
-unfolding cornerSd
-returns-2 c = λ sure same. let d = c .before .before .before in rw (← (d .before .both-positive .ensures), d .if1 .left, c .before .before .if2 .taken) (c .side-cover .ensures)
+unfolding besideOf
+returns-2 c =
+    let d = c .before .before .before in
+    rw (← (d .before .both-positive .ensures), d .if1 .left, c .before .before .if2 .taken) (c .side-cover .ensures)
 
 returns-3 : tie.Need-returns-3
-unfolding cornerSd
-returns-3 c = λ sure same. rw (← (c .before .before .both-positive .ensures), c .before .if1 .left, c .if2 .left) same
+unfolding besideOf
+returns-3 c = rw (← (c .before .before .both-positive .ensures), c .before .if1 .left, c .if2 .left)
 
 pub beside-spec : {M : Type 1} → statement M
 beside-spec =
