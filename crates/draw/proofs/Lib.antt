@@ -4,6 +4,7 @@ pub mod Onto
 pub mod Rows
 pub mod Loops
 pub mod Clips
+pub mod Clamps
 pub mod Frame
 pub mod Held
 pub mod Parts

@@ -1,4 +1,6 @@
--- Boxes of pixels within the canvas, as loops go through them: columns x0 up to x1 and rows y0 up to y1, all natural numbers.
+-- Boxes of pixels within the canvas, as loops go through them: columns x0 up to x1 and rows y0 up to y1, all natural numbers. No
+-- call of the library cites this file: the loops' own contracts do, and `drawn-clip` (proofs/Clips) says that what they draw is
+-- the `drawn` that the calls cite.
 use mathlib.Core.Bool.{Bool, cond, _&&_}
 use mathlib.Core.List.{List}
 use mathlib.Core.Path.{_≡_}

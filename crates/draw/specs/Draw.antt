@@ -21,8 +21,9 @@ onto s f px = eachAt (λ i p. cond (s i) (f i p) p) 0 px
 unfoldable pub meets : IRect → IRect → ℕ → ℕ → Bool
 meets clip reach x y = inside clip (pos x) (pos y) && inside reach (pos x) (pos y)
 
--- px, in rows of `pitch` words, after a shape is drawn under a clip. Of a shape its reach is asked, its box before the clip, and its
--- ink, the new value of a pixel by column, row and old value. A clip lies within the canvas, so words of a row past it are left.
+-- px, in rows of `pitch` words, after a shape is drawn under a clip. Of a shape its reach is asked, its box before the clip, and
+-- its ink, the new value of a pixel by column, row and old value. A clip lies within the canvas, so words of a row past it are
+-- left.
 unfoldable pub drawn : ℕ → IRect → IRect → (ℕ → ℕ → ℕ → ℕ) → List ℕ → List ℕ
 drawn pitch clip reach ink px = onto (λ i. meets clip reach (i % pitch) (i / pitch)) (λ i p. ink (i % pitch) (i / pitch) p) px
 

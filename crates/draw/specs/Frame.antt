@@ -1,4 +1,5 @@
--- A canvas within a wider frame (document 02, 2026-07): px is h rows of `pitch` words, and a canvas of w columns has the first w words of each.
+-- A canvas within a wider frame (document 02, 2026-07): px is h rows of `pitch` words, and a canvas of w columns has the first w
+-- words of each.
 use mathlib.Core.Bool.{Bool, _&&_}
 use mathlib.Core.List.{List}
 use Prim.Native.Nat.{ℕ, _*_, _%_}

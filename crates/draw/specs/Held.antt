@@ -1,4 +1,5 @@
--- A row of numbers, one for each column, of which some are filled.
+-- A row of numbers, one for each column, of which some are filled: what the loops that fill and read such rows say to each other.
+-- No call of the library cites this file.
 use mathlib.Core.List.{List}
 use mathlib.Core.Path.{_≡_}
 use Prim.Native.Nat.{ℕ, _<_, _≤_}

@@ -1,4 +1,5 @@
--- A shape that is drawn in parts, one after the other, as a polyline is in its lines. Each part has a reach and an ink, and so has the whole.
+-- A shape that is drawn in parts, one after the other, as a polyline is in its lines. Each part has a reach and an ink, and so
+-- has the whole.
 use mathlib.Core.Bool.{cond}
 use mathlib.Core.List.{List, [], _∷_}
 use Prim.Native.Nat.{ℕ, _+_}

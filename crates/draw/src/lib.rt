@@ -69,7 +69,8 @@ pub fn pitch_number(w: usize, pitch: usize) -> u32
     if ok { 0 } else { 15 }
 }
 
-// The number that px of n words is refused with, in rows of `pitch` words, for a canvas of w columns and h rows: 15, then 8, or 0.
+// The number that px of n words is refused with, in rows of `pitch` words, for a canvas of w columns and h rows: 15, then 8, or
+// 0.
 pub fn frame_number(w: usize, h: usize, pitch: usize, n: usize) -> u32
     requires { ⌜ h ≤ 65535 ⌝ }
     ensures { λ r. ⌜ r ≡ frameNumber w h pitch n ⌝ }

@@ -1,5 +1,5 @@
--- Filled rounded rectangles (gfx.rs, `fill_rrect`): the reach, and the ink as a function of one pixel. Every f32 operation is rounded once,
--- in the order written.
+-- Filled rounded rectangles (gfx.rs, `fill_rrect`): the reach, and the ink as a function of one pixel. Every f32 operation is
+-- rounded once, in the order written.
 use mathlib.Core.Bool.{Bool, cond, not, _&&_, _||_}
 use mathlib.Core.List.{List}
 use Prim.Native.Nat.{ℕ}
@@ -43,7 +43,8 @@ rsOf corner rect r = cond corner (floorOf (rightOf rect -ᶠ r)) (floorOf (right
 
 -- ---- the pixel in column x and row y
 
--- between the rims, of a row that is no edge row
+-- between the rims, of a row that is no edge row. The Rust brings `le` to the row's columns under the clip, and `rs` to those
+-- from there on, before it uses them; left out here, as it changes no pixel (draw proofs/Clamps, `clamped-columns`)
 unfoldable pub middle : Rect → Float → ℕ → ℕ → Bool
 middle rect r x y =
     let yc = centreOf y in
@@ -70,8 +71,8 @@ fillInk rect r paint = roundInk rect (radiusOf rect r) paint
 
 -- ---- the calls
 
--- what a fill promises, by whether the floats given are within the limit: of the canvas, the rectangle, its radius and its paint, px as
--- it came, the answer, and px as it is left
+-- what a fill promises, by whether the floats given are within the limit: of the canvas, the rectangle, its radius and its paint,
+-- px as it came, the answer, and px as it is left
 abbrev pub Filled : Canvas → Bool → Rect → Float → Paint → List ℕ → Counted → List ℕ → Type 0
 Filled canvas ok rect r paint px =
     ShapeCalled (shapeNumber canvas (length px) ok) canvas px (drawn (canvas .pitch) (canvas .clip) (fillReach rect) (fillInk rect r paint) px)

@@ -1,4 +1,5 @@
--- The soft shadow of a rounded rectangle: `shadow_rrect` of gfx.rs, for one pixel. Each f32 operation is rounded once, in the order written.
+-- The soft shadow of a rounded rectangle: `shadow_rrect` of gfx.rs, for one pixel. Each f32 operation is rounded once, in the
+-- order written.
 use mathlib.Core.Bool.{Bool, cond, _&&_, _||_}
 use Prim.Native.Nat.{ℕ}
 use lib.Dec.{leb, eqb}
@@ -48,7 +49,10 @@ rowDy s yc = fabsOf (yc -ᶠ s .cy)
 abbrev pub rowQy : Rounded → Float → Float
 rowQy s yc = rowDy s yc -ᶠ (s .hh -ᶠ s .r)
 
--- a row beside the straight part of the left and right sides: its middle columns, their alpha, and that beside them
+-- a row beside the straight part of the left and right sides: its middle columns, their alpha, and that beside them. The Rust
+-- brings both ends to the row's columns under the clip, and where they meet or cross it takes the column `m` of the rectangle's
+-- centre for both, so that there is no middle. Left out here: between the ends as they are lie the same of the row's columns
+-- (draw proofs/Clamps, `crossed-columns`)
 unfoldable pub straightFrom : Rounded → Float → ℤ
 straightFrom s blur = toI32 (ceilOf (s .cx -ᶠ s .hw +ᶠ blur))
 
@@ -66,7 +70,8 @@ straightSide s a blur sdy xc =
     let sdx = fabsOf (xc -ᶠ s .cx) -ᶠ s .hw in
     alphaOf a blur (cond (sdy <ᶠ sdx) sdx sdy)
 
--- any other row: its middle columns, and the alpha beside them
+-- any other row: its middle columns, and the alpha beside them. Here the Rust brings the first end to the row's columns, and the
+-- second to those from there on: the same (draw proofs/Clamps, `clamped-columns`)
 unfoldable pub cornerFrom : Rounded → ℤ
 cornerFrom s = toI32 (ceilOf (s .cx -ᶠ (s .hw -ᶠ s .r)))
 

@@ -1,4 +1,5 @@
--- What the loops of a row do: the alpha read from the table of levels, and the ink of each part of a row.
+-- What the loops of a row do: the alpha read from the table of levels, and the ink of each part of a row. No call of the library
+-- cites this file.
 use mathlib.Core.Bool.{Bool, true, cond}
 use mathlib.Core.Path.{_≡_}
 use mathlib.Core.List.{List}

@@ -1,4 +1,4 @@
--- What the rows of an outline share, and the columns of a row.
+-- What the rows of an outline share, and the columns of a row. No call of the library cites this file: the loops of a row do.
 use mathlib.Core.Path.{_≡_}
 use mathlib.Core.Bool.{Bool, true, false, cond}
 use mathlib.Core.List.{List}
@@ -28,7 +28,8 @@ BlankFrom r width k = (d : Float) → T (fits binary32 d) → (k ≤ᶠ d) ≡ t
 unfoldable pub BlankUpto : Float → Float → Float → Type 0
 BlankUpto r width k = (d : Float) → T (fits binary32 d) → (f0 ≤ᶠ d) ≡ true → (d ≤ᶠ k) ≡ true → bandCover (sqrtOf d -ᶠ r) width ≡ 0
 
--- of the row with the centre yc: how far it is past the sides, the coverage where no corner or side is nearer, and two such distances
+-- of the row with the centre yc: how far it is past the sides, the coverage where no corner or side is nearer, and two such
+-- distances
 pub record LevelOf (s : Rounded) (width yc : Float) (l : Level) : Type 0 where
   pub past : l .qy ≡ fabsOf (yc -ᶠ s .cy) -ᶠ (s .hh -ᶠ s .r)
   pub covered : l .level ≡ bandCover (l .qy -ᶠ s .r) width

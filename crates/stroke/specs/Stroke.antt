@@ -1,4 +1,5 @@
--- The outline of a rounded rectangle: `stroke_rrect` of gfx.rs, for one pixel. Each f32 operation is rounded once, in the order written.
+-- The outline of a rounded rectangle: `stroke_rrect` of gfx.rs, for one pixel. Each f32 operation is rounded once, in the order
+-- written.
 use mathlib.Core.Bool.{Bool, cond, _&&_, _||_, not}
 use Prim.Native.Nat.{ℕ}
 use lib.Dec.{eqb}
@@ -44,7 +45,9 @@ cornerRow s yc = (f0 <ᶠ s .r) && ((yc <ᶠ s .top +ᶠ s .r +ᶠ f1) || (s .bo
 unfoldable pub sideWidth : Rounded → Float → Float → Float
 sideWidth s width yc = cond (cornerRow s yc) (s .r +ᶠ f1) (width +ᶠ f1)
 
--- the columns between the two ranges, which are left
+-- the columns between the two ranges, which are left. The Rust brings the end of the first range to the row's columns under the
+-- clip, and the start of the second to those from there on; left out here, as it changes no pixel (draw proofs/Clamps,
+-- `clamped-columns`)
 unfoldable pub gapFrom : Rounded → Float → Float → ℤ
 gapFrom s width yc = toI32 (ceilOf (s .left +ᶠ sideWidth s width yc))
 
