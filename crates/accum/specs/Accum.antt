@@ -1,5 +1,5 @@
--- The signed-area accumulator of `fill_poly`, bit for bit: what `accum_line` adds for one row of one edge. Columns are signed, as the
--- Rust has them, and every sum is stored before the next is read. Assumes nothing.
+-- The signed-area accumulator of `fill_poly`, bit for bit: what `accum_line` adds for one row of one edge. Columns are signed, as
+-- the Rust has them, and every sum is stored before the next is read. Assumes nothing.
 use mathlib.Core.Bool.{cond}
 use mathlib.Core.List.{List}
 use Prim.Native.Nat.{ℕ, zero, suc, _+_}
@@ -41,15 +41,16 @@ unfoldable pub innerRow : List Float → ℕ → ℤ → ℤ → Float → Float
 innerRow a ls x0i x1i d s x0fr a0 am =
     cond (eqZ x1i (x0i +ℤ pos 2)) (bumpAt a (cell ls (x0i +ℤ pos 1)) (d *ᶠ (f1 -ᶠ a0 -ᶠ am))) (midRow a ls x0i x1i d s x0fr a0 am)
 
--- the edge crosses the columns from x0i to x1i. s is one over its width, x0fr and x1fr how far it reaches into the first and the last
+-- the edge crosses the columns from x0i to x1i. s is one over its width, x0fr and x1fr how far it reaches into the first and the
+-- last
 unfoldable pub wideRow : List Float → ℕ → ℤ → ℤ → Float → Float → Float → Float → List Float
 wideRow a ls x0i x1i d s x0fr x1fr =
     let a0 = f½ *ᶠ s *ᶠ (f1 -ᶠ x0fr) *ᶠ (f1 -ᶠ x0fr) in
     let am = f½ *ᶠ s *ᶠ x1fr *ᶠ x1fr in
     bumpAt (innerRow (bumpAt a (cell ls x0i) (d *ᶠ a0)) ls x0i x1i d s x0fr a0 am) (cell ls x1i) (d *ᶠ am)
 
--- One row of one edge, from xa to xb. The row starts at ls and d is its signed height; x0f and x1c are xa's floor and xb's ceiling, and
--- x0i and x1i those as columns.
+-- One row of one edge, from xa to xb. The row starts at ls and d is its signed height; x0f and x1c are xa's floor and xb's
+-- ceiling, and x0i and x1i those as columns.
 unfoldable pub rowAccum : List Float → ℕ → Float → Float → Float → Float → Float → ℤ → ℤ → List Float
 rowAccum a ls d xa xb x0f x1c x0i x1i =
     cond (leZ x1i (x0i +ℤ pos 1))

@@ -1,4 +1,5 @@
--- What the contract of `accum_line` asks: that the accumulator has room for the box. Assumes nothing.
+-- That the accumulator has room for the box: what `accum_line` and its loops ask. No call of the library cites this file;
+-- `fill_poly` lends such an accumulator. Assumes nothing.
 use Prim.Native.Nat.{ℕ, _+_, _*_, _≤_}
 
 -- the rows of a box of bw by bh lie within n words. No box is wider or higher, since no coordinate is past 8,192

@@ -1,5 +1,5 @@
--- The box of a polygon: its points, the box around them, whether it is painted, and the words of its accumulator, bit for bit. The points are a
--- list of coordinates x y x y. Assumes nothing.
+-- The box of a polygon: its points, the box around them, whether it is painted, and the words of its accumulator, bit for bit.
+-- The points are a list of coordinates x y x y. Assumes nothing.
 use mathlib.Core.Bool.{Bool, _&&_}
 use mathlib.Core.List.{List}
 use Prim.Native.Nat.{ℕ, zero, suc, _+_, _*_, _/_}

@@ -1,4 +1,5 @@
--- What contracts ask: that a box can be drawn around points, and that a box is near; and the box with its need. Assumes nothing.
+-- That a box can be drawn around points, and that a box is near: what the parts below `fill_poly` ask; and the box with its need,
+-- as they hand it on. No call of the library cites this file. Assumes nothing.
 use mathlib.Core.Bool.{true, cond}
 use mathlib.Core.List.{List}
 use mathlib.Core.Path.{_≡_}

@@ -1,5 +1,6 @@
--- The state of the canvas before the first item, and after each, for any bytes at all. Its laws (proofs/Standing) say that its clips are redraw's
--- for the items of an accepted sheet. Assumes nothing.
+-- The state of the canvas before the first item, and after each, for any bytes at all: what the walks of drawing, measuring and
+-- comparing share. No call of the library cites this file. Its laws (proofs/Standing) say that its clips are redraw's for the
+-- items of an accepted sheet. Assumes nothing.
 use Prim.Native.Nat.{ℕ}
 use mathlib.Core.Bool.{Bool, true, false}
 use mathlib.Core.List.{List}

@@ -1,5 +1,5 @@
-// The state of the canvas along the items of a sheet: its sides, its pitch, the clip and the saved clips, before the first item and after each. No pixel is
-// asked for.
+// The state of the canvas along the items of a sheet: its sides, its pitch, the clip and the saved clips, before the first item
+// and after each. No pixel is asked for.
 use geom::IRect;
 use gfx::Canvas;
 use items::rect_of;

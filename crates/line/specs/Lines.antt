@@ -1,4 +1,5 @@
--- `Canvas::line` of gfx.rs: a segment with round ends, by each pixel's distance to it. Each f32 operation is rounded once, in the order written.
+-- `Canvas::line` of gfx.rs: a segment with round ends, by each pixel's distance to it. Each f32 operation is rounded once, in the
+-- order written.
 use mathlib.Core.Bool.{Bool, false, _&&_}
 use Prim.Native.Nat.{ℕ}
 use lib.Ieee.{Float, nan, inf, fin}

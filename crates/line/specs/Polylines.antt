@@ -36,7 +36,7 @@ polylined pitch clip pts width c px = drawnAll pitch clip (chainOf pts width c) 
 unfoldable pub polylineSteps : ℕ → IRect → List Float → Float → Color → List ℕ → ℕ
 polylineSteps pitch clip pts width c px = altersAll pitch clip (chainOf pts width c) px
 
--- what drawing them promises
+-- what the loop that draws them promises; the call cites the two above
 pub record DrewLines (pitch : ℕ) (clip : IRect) (pts : List Float) (width : Float) (c : Color) (px : List ℕ) (n : ℕ) (px′ : List ℕ) : Type 0 where
   pub paints : px′ ≡ polylined pitch clip pts width c px
   pub counts : n ≡ polylineSteps pitch clip pts width c px

@@ -1,4 +1,5 @@
--- What the second half of a patch starts from. Assumes nothing.
+-- What the second half of a patch starts from. No call of the library cites this file: the function of that half does. Assumes
+-- nothing.
 use Prim.Native.Nat.{ℕ}
 use mathlib.Core.List.{List}
 use mathlib.Core.Path.{_≡_}

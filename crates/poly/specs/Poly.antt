@@ -1,5 +1,5 @@
--- `fill_poly`: a polygon's reach, its accumulator and what it leaves in a pixel and in the scratch, bit for bit. The points are a list of
--- coordinates x y x y. Assumes nothing.
+-- `fill_poly`: a polygon's reach, its accumulator and what it leaves in a pixel and in the scratch, bit for bit. The points are a
+-- list of coordinates x y x y. Assumes nothing.
 use mathlib.Core.Bool.{Bool, cond, _&&_}
 use mathlib.Core.List.{List, _++_}
 use mathlib.Core.Path.{_≡_}

@@ -1,4 +1,5 @@
--- What the private contracts ask: that a part of the canvas lies in the box; and a pixel by the words of its row. Assumes nothing.
+-- That a part of the canvas lies in the box, and a pixel by the words of its row: what the loops of a row ask and do. No call of
+-- the library cites this file. Assumes nothing.
 use mathlib.Core.Bool.{true}
 use mathlib.Core.List.{List}
 use mathlib.Core.Path.{_≡_}

@@ -46,8 +46,8 @@ fn fill_part(
     n
 }
 
-// The same by any scratch: 9 where it has too few words, and then nothing is touched; else 0, and later words stay as they came. Where
-// nothing is painted, none is touched.
+// The same by any scratch: 9 where it has too few words, and then nothing is touched; else 0, and later words stay as they came.
+// Where nothing is painted, none is touched.
 pub(crate) fn fill_lent(
     px: &mut [u32],
     scratch: &mut [f32],

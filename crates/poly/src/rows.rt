@@ -75,8 +75,8 @@ fn run_sum(acc: &[f32], i: usize, n: usize) -> f32
     a
 }
 
-// The columns from x0 up to x1 of row y of the canvas, where the box's row starts at ls and column x0 is the one after `skip`. The sum
-// starts at the box's first column, wherever the clip starts.
+// The columns from x0 up to x1 of row y of the canvas, where the box's row starts at ls and column x0 is the one after `skip`.
+// The sum starts at the box's first column, wherever the clip starts.
 fn paint_row(
     px: &mut [u32],
     acc: &[f32],

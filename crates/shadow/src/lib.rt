@@ -64,8 +64,8 @@ fn alpha_of(lut: &[u32; 97], a: u8, blur: f32, scale: f32, sd: f32) -> u32
     table_alpha(lut, (sd + blur) * scale)
 }
 
-// What every row of a shadow asks: its rectangle, the blur, the levels to a pixel, the squared distance of a corner's centre where
-// it has faded, the colour.
+// What every row of a shadow asks: its rectangle, the blur, the levels to a pixel, the squared distance of a corner's centre
+// where it has faded, the colour.
 struct Shade {
     s: Rounded,
     blur: f32,

@@ -126,8 +126,8 @@ fn level_part(s: Rounded, x0: usize, x1: usize) -> Columns
     Columns { from: x1, upto: x1 }
 }
 
-// An outline as its rows ask for it: the gaps of rows beside the corners and of others, the columns beside no corner, and the squared
-// distances of a corner's centre beyond which it covers nothing.
+// An outline as its rows ask for it: the gaps of rows beside the corners and of others, the columns beside no corner, and the
+// squared distances of a corner's centre beyond which it covers nothing.
 struct Frame {
     s: Rounded,
     width: f32,
@@ -139,8 +139,8 @@ struct Frame {
     near: f32,
 }
 
-// A squared distance of a corner's centre just over half a pixel outside the band, from which on it covers nothing; a NaN where none was
-// found.
+// A squared distance of a corner's centre just over half a pixel outside the band, from which on it covers nothing; a NaN where
+// none was found.
 fn blank_from(r: f32) -> f32
     ensures { λ k. ⌜ ((width : Float) → BlankFrom r width k) ⌝ }
 {
