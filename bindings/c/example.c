@@ -1,6 +1,6 @@
-/* Measures and paints a small ticket, patches it, draws it call by call, counts steps, does the same within a wider frame, patches shapes under
- * clips, lets a trace grow, takes every small clip order, and checks every answer. The counts are worked out by hand, or by the pixels that
- * differ.
+/* Measures and paints a small ticket, patches it, draws it call by call, blends a pixel, counts steps, does the same within a wider frame,
+ * patches shapes under clips, lets a trace grow, takes every small clip order, and checks every answer. The counts are worked out by hand, or by
+ * the pixels that differ.
  *
  *   cc -std=c11 -Wall -Wextra -Werror -I bindings/c bindings/c/example.c -L target/staticlib -lmaldjupp -o example */
 #include "maldjupp.h"
@@ -268,6 +268,7 @@ static uint32_t at(int32_t x, int32_t y) { return maldjupp_get(canvas, px2, W * 
 
 /* The other brushes and shapes. */
 static void shapes(void) {
+    static uint32_t before[W * H];
     const struct maldjupp_color white = hex(0xFFFFFF), black = hex(0);
     const struct maldjupp_rect all = {0, 0, W, H}, inner = {4, 4, 16, 8};
     const struct maldjupp_pt left = {0, 0}, right = {W, 0}, middle = {12, 8};
@@ -292,10 +293,43 @@ static void shapes(void) {
     check("a ring", took(maldjupp_clear(canvas, px2, W * H, white)) && drew(maldjupp_ring(canvas, px2, W * H, 12, 8, 6, 2, black)) &&
                         at(7, 8) == 0 && at(12, 8) == 0xFFFFFF && at(4, 8) == 0xFFFFFF);
     check("a shadow without its middle",
-          drew(maldjupp_shadow_rrect(canvas, px2, W * H, inner, 1, 2, black, true)) && at(12, 8) == 0xFFFFFF && at(4, 8) < 0xFFFFFF);
-    check("and with it", drew(maldjupp_shadow_rrect(canvas, px2, W * H, inner, 1, 2, black, false)) && at(12, 8) < 0xFFFFFF);
+          drew(maldjupp_shadow_rrect(canvas, px2, W * H, inner, 1, 2, black, 1)) && at(12, 8) == 0xFFFFFF && at(4, 8) < 0xFFFFFF);
+    check("and with it", drew(maldjupp_shadow_rrect(canvas, px2, W * H, inner, 1, 2, black, 0)) && at(12, 8) < 0xFFFFFF);
+    memcpy(before, px2, sizeof px2);
+    check("neither with nor without it: refused 5",
+          refused_shape(maldjupp_shadow_rrect(canvas, px2, W * H, inner, 1, 2, black, 2), MALDJUPP_ZERO_BYTE) &&
+              refused_shape(maldjupp_shadow_rrect(canvas, px2, W * H, inner, 1, 2, black, 256), MALDJUPP_ZERO_BYTE));
+    check("after 8 and before 6",
+          refused_shape(maldjupp_shadow_rrect(canvas, px2, W * H - 1, inner, 1, 2, black, 2), MALDJUPP_PIXELS) &&
+              refused_shape(maldjupp_shadow_rrect(canvas, px2, W * H, inner, 8193, 2, black, 2), MALDJUPP_ZERO_BYTE) &&
+              refused_shape(maldjupp_shadow_rrect(canvas, px2, W * H, inner, 8193, 2, black, 1), MALDJUPP_FLOAT));
+    check("refused, no pixel is altered", memcmp(px2, before, sizeof px2) == 0);
     check("another size: pixels of 0",
           took(maldjupp_resize(canvas, H, H, px2, W * H)) && is_box(maldjupp_bounds(canvas), 0, 0, 0, H, H) && at(12, 8) == 0);
+}
+
+static int is_blended(struct maldjupp_blended b, uint32_t number, uint32_t value, bool altered) {
+    return b.number == number && b.value == value && b.altered == altered;
+}
+
+/* One pixel: the values of the definition, and whether they differ from the old one. */
+static void blends(void) {
+    const uint32_t old = 0x00123456, marked = 0xFF123456;
+    check("a blend's answer has 12 bytes, altered at 8",
+          sizeof(struct maldjupp_blended) == 12 && offsetof(struct maldjupp_blended, altered) == 8);
+    check("ink 127 over 0 at 1: 0, and 128: 1",
+          is_blended(maldjupp_blend(0, 127, 0, 0, 1), 0, 0, false) && is_blended(maldjupp_blend(0, 128, 0, 0, 1), 0, 0x010000, true));
+    check("red over 0 at 128", is_blended(maldjupp_blend(0, 255, 0, 0, 128), 0, 0x800000, true));
+    check("alpha 0 leaves the pixel, uppermost byte and all", is_blended(maldjupp_blend(marked, 1, 2, 3, 0), 0, marked, false));
+    check("alpha 255 and above: the inks",
+          is_blended(maldjupp_blend(marked, 1, 2, 3, 255), 0, 0x010203, true) && is_blended(maldjupp_blend(old, 1, 2, 3, UINT32_MAX), 0, 0x010203, true));
+    /* (200 * 100 + 18 * 155 + 127) / 255 = 89, (0 * 100 + 52 * 155 + 127) / 255 = 32, (86 * 100 + 86 * 155 + 127) / 255 = 86. */
+    check("between them, each channel the nearest", is_blended(maldjupp_blend(old, 200, 0, 86, 100), 0, 0x592056, true));
+    check("the same value is not altered", is_blended(maldjupp_blend(old, 0x12, 0x34, 0x56, 77), 0, old, false));
+    check("the uppermost byte alone is", is_blended(maldjupp_blend(marked, 0x12, 0x34, 0x56, 77), 0, old, true));
+    check("an ink of 256: refused 11, 0 and not altered, whatever the alpha",
+          is_blended(maldjupp_blend(old, 256, 0, 0, 0), MALDJUPP_INK, 0, false) && is_blended(maldjupp_blend(old, 0, 256, 0, 128), MALDJUPP_INK, 0, false) &&
+              is_blended(maldjupp_blend(old, 0, 0, UINT32_MAX, 255), MALDJUPP_INK, 0, false));
 }
 
 /* A new canvas, all white. */
@@ -561,7 +595,7 @@ static int over_the_edges(uint32_t *px, size_t pitch) {
     summed = 0;
     return took(maldjupp_new(W, H, pitch, px, n)) && canvas.pitch == pitch &&
            added(maldjupp_fill_circle(canvas, px, n, 21, 8, 7, maldjupp_vgrad(0, H, hex(copper), hex(brass)))) &&
-           added(maldjupp_shadow_rrect(canvas, px, n, band, 1, 3, ink, false)) &&
+           added(maldjupp_shadow_rrect(canvas, px, n, band, 1, 3, ink, 0)) &&
            added(maldjupp_stroke_rrect(canvas, px, n, band, 2, 2, ink)) &&
            added(maldjupp_polyline(canvas, px, n, way, 6, 3, ink)) &&
            added(maldjupp_fill_poly(canvas, px, n, corner, 6, maldjupp_solid(ink), scratch, 99));
@@ -771,6 +805,7 @@ int main(void) {
     rooms();
     calls();
     shapes();
+    blends();
     counts();
     framed();
     bad_pitches();

@@ -32,6 +32,7 @@ enum maldjupp_number {
     MALDJUPP_PIXELS = 8,       /* the pixels lent are not pitch times height */
     MALDJUPP_SCRATCH = 9,      /* the scratch lent is less than is needed */
     MALDJUPP_DIFFERENCE = 10,  /* the sheets differ in size, ground or item count, or in a push or pop of a clip */
+    MALDJUPP_INK = 11,         /* an ink of maldjupp_blend is over 255 */
     MALDJUPP_STATE = 12,       /* a state that a canvas cannot be in */
     MALDJUPP_POINTS = 13,      /* a polygon or polyline of over 64 points, or in a canvas call an odd count of coordinates */
     MALDJUPP_MANY = 14,        /* the sheets differ in more than 32 shapes */
@@ -129,6 +130,17 @@ struct maldjupp_written {
  * and each is accepted by maldjupp_paint with 16 pixels and no scratch. Refused, by 23 for a number of 1,093 or more and then by 19 where the
  * sheet does not fit, the buffer is not altered; accepted, its bytes past `len` are not. */
 struct maldjupp_written maldjupp_clip_order(size_t number, uint8_t *buf, size_t room);
+
+/* What maldjupp_blend returns. Refused, the value is 0 and altered false. */
+struct maldjupp_blended {
+    uint32_t number, value;
+    bool altered; /* whether the value, all 32 bits, differs from the old one */
+};
+
+/* Blends three inks of 0 to 255 over an old pixel, source over. An alpha of 0 leaves the old pixel with its uppermost byte; one of 255 or more
+ * gives the inks themselves; between them each channel is (ink * a + old * (255 - a) + 127) / 255, cut down, which is nearest to the exact mix, and
+ * the uppermost byte is 0. Refused by 11 for an ink over 255, whatever the alpha. */
+struct maldjupp_blended maldjupp_blend(uint32_t old, uint32_t r, uint32_t g, uint32_t b, uint32_t a);
 
 /* ---- The canvas, call by call
  *
@@ -284,9 +296,10 @@ struct maldjupp_counted maldjupp_polyline(struct maldjupp_canvas canvas, uint32_
 struct maldjupp_counted maldjupp_fill_poly(struct maldjupp_canvas canvas, uint32_t *px, size_t pixels, const float *points, size_t count,
                                            struct maldjupp_brush brush, float *scratch, size_t words);
 
-/* The soft shadow of a rectangle with round corners; with `skip_inside` its middle, where it is darkest, is left out. */
+/* The soft shadow of a rectangle with round corners. `skip_inside` is 0 or 1, and with 1 its middle, where it is darkest, is left out; more than 1
+ * is refused by 5. */
 struct maldjupp_counted maldjupp_shadow_rrect(struct maldjupp_canvas canvas, uint32_t *px, size_t pixels, struct maldjupp_rect rect, float r,
-                                              float blur, struct maldjupp_color color, bool skip_inside);
+                                              float blur, struct maldjupp_color color, uint32_t skip_inside);
 
 #ifdef __cplusplus
 }

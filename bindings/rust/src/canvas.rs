@@ -209,7 +209,7 @@ impl Canvas {
 
     /// Draws a soft shadow.
     pub fn shadow_rrect(&mut self, rect: Rect, r: f32, blur: f32, color: Color, skip_inside: bool) -> Result<u64, Refusal> {
-        self.draw(|state, px| state.shadow_rrect(px, rect, r, blur, color, skip_inside))
+        self.draw(|state, px| state.shadow_rrect(px, rect, r, blur, color, skip_inside.into()))
     }
 
     /// The words as they lie, [`pitch`](Canvas::pitch) times height: the pixels row by row, each 0x00RRGGBB, and after each row the words past the

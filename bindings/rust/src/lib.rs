@@ -44,12 +44,15 @@
 //!
 //! What painting a sheet takes, [`room`] tells before it is painted: scratch, saved clips, and pixels as a figure for the work.
 //!
+//! One pixel is blended, and told whether it altered, by [`blend`].
+//!
 //! A program that shows sheets can be tried on [`clip_orders`], every small order of clips and fills.
 //!
 //! The library is found by the build script: in the folder that `MALDJUPP_LIB_DIR` names, else where `rt staticlib maldjupp` writes it.
 #![deny(unsafe_code)]
 #![warn(missing_docs)]
 
+mod blend;
 mod canvas;
 mod frame;
 mod measure;
@@ -61,6 +64,7 @@ mod sheet;
 mod ticket;
 mod values;
 
+pub use blend::{blend, Blended};
 pub use canvas::Canvas;
 pub use frame::to_ppm;
 pub use measure::{room, Room};

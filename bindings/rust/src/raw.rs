@@ -70,6 +70,14 @@ pub struct Pixel {
     pub value: u32,
 }
 
+/// A number, the value of a blend, and whether it differs from the old one.
+#[repr(C)]
+pub struct Blended {
+    pub number: u32,
+    pub value: u32,
+    pub altered: bool,
+}
+
 /// A paint as a kind, two colours and four floats.
 #[repr(C)]
 #[derive(Clone, Copy)]
@@ -114,6 +122,7 @@ extern "C" {
     ) -> Reply;
     fn maldjupp_measure(sheet: *const u8, bytes: usize) -> Room;
     fn maldjupp_clip_order(number: usize, buf: *mut u8, room: usize) -> Written;
+    fn maldjupp_blend(old: u32, r: u32, g: u32, b: u32, a: u32) -> Blended;
     fn maldjupp_new(w: i32, h: i32, pitch: usize, px: *mut u32, pixels: usize) -> Done;
     fn maldjupp_resize(canvas: State, w: i32, h: i32, px: *mut u32, pixels: usize) -> Done;
     fn maldjupp_bounds(canvas: State) -> Boxed;
@@ -156,7 +165,7 @@ extern "C" {
         r: f32,
         blur: f32,
         color: Color,
-        skip_inside: bool,
+        skip_inside: u32,
     ) -> Counted;
 }
 
@@ -193,6 +202,11 @@ pub fn measure(sheet: &[u8]) -> Room {
 /// Writes the clip order of a number, from 0, into a buffer.
 pub fn clip_order(number: usize, buf: &mut [u8]) -> Written {
     unsafe { maldjupp_clip_order(number, buf.as_mut_ptr(), buf.len()) }
+}
+
+/// Blends three inks over an old pixel at an alpha.
+pub fn blend(old: u32, r: u32, g: u32, b: u32, a: u32) -> Blended {
+    unsafe { maldjupp_blend(old, r, g, b, a) }
 }
 
 /// The calls of a canvas, each on its state and on px.
@@ -276,7 +290,8 @@ impl State {
         }
     }
 
-    pub fn shadow_rrect(self, px: &mut [u32], rect: Rect, r: f32, blur: f32, color: Color, skip_inside: bool) -> Counted {
+    /// Of `skip_inside`, 0 and 1 are accepted.
+    pub fn shadow_rrect(self, px: &mut [u32], rect: Rect, r: f32, blur: f32, color: Color, skip_inside: u32) -> Counted {
         unsafe { maldjupp_shadow_rrect(self, px.as_mut_ptr(), px.len(), rect, r, blur, color, skip_inside) }
     }
 }
@@ -315,7 +330,7 @@ mod tests {
             state.line(px, pt, pt, 1.0, Color::WHITE),
             state.polyline(px, &[pt; 3], 1.0, Color::WHITE),
             state.fill_poly(px, &[pt; 3], brush, &mut [0.0; 99]),
-            state.shadow_rrect(px, rect, 1.0, 1.0, Color::WHITE, false),
+            state.shadow_rrect(px, rect, 1.0, 1.0, Color::WHITE, 0),
         ];
         assert!(shapes.iter().all(|drawn| drawn.number == number && drawn.state == state && drawn.steps == 0));
         assert_eq!((state.bounds().number, state.clip().number, state.get(px, 0, 0).number), (number, number, number));
@@ -395,6 +410,44 @@ mod tests {
             assert!(fives.iter().all(|drawn| drawn.number == 5 && drawn.state == state && drawn.steps == 0));
         }
         assert_eq!(*px, [0; 4]);
+    }
+
+    /// A shadow's `skip_inside` over 1 is refused by 5, after 12, 15 and 8 and before 6; 0 and 1 draw two different shadows.
+    #[test]
+    fn a_skip_over_1_is_refused() {
+        let px = &mut [0; 64];
+        let state = State::blank(8, 8, 8, px).state;
+        let (fit, bad, white) = (Rect::new(0.0, 0.0, 8.0, 8.0), Rect::new(f32::NAN, 0.0, 8.0, 8.0), Color::WHITE);
+        for skip in [2, 3, 255, 256, 1 << 8 | 1, 1 << 31, u32::MAX] {
+            assert_eq!(odd().shadow_rrect(px, fit, 1.0, 1.0, white, skip).number, 12);
+            assert_eq!(State { pitch: 7, ..state }.shadow_rrect(&mut [0; 3], fit, 1.0, 1.0, white, skip).number, 15);
+            assert_eq!(state.shadow_rrect(&mut [0; 63], fit, 1.0, 1.0, white, skip).number, 8);
+            for rect in [fit, bad] {
+                let drawn = state.shadow_rrect(px, rect, 1.0, 1.0, white, skip);
+                assert_eq!((drawn.number, drawn.state, drawn.steps, *px), (5, state, 0, [0; 64]), "{skip}");
+            }
+        }
+        let drawn = [0, 1].map(|skip| {
+            assert_eq!(state.shadow_rrect(px, bad, 1.0, 1.0, white, skip).number, 6);
+            let px = &mut [0; 64];
+            let drawn = state.shadow_rrect(px, fit, 0.0, 1.0, white, skip);
+            assert_eq!((drawn.number, drawn.state), (0, state));
+            (drawn.steps, px[4 * 8 + 4])
+        });
+        assert_eq!(drawn, [(64, 0xFF_FFFF), (64 - 36, 0)]);
+    }
+
+    /// Each field of a blend comes back: number, value, altered.
+    #[test]
+    fn a_blend_has_its_fields() {
+        let fields = |old, r, g, b, a| {
+            let blended = blend(old, r, g, b, a);
+            (blended.number, blended.value, blended.altered)
+        };
+        assert_eq!(fields(0x0012_3456, 1, 2, 3, 255), (0, 0x0001_0203, true));
+        assert_eq!(fields(0x0001_0203, 1, 2, 3, 255), (0, 0x0001_0203, false));
+        assert_eq!(fields(0x0012_3456, 256, 2, 3, 255), (11, 0, false));
+        assert_eq!([offset_of!(Blended, value), offset_of!(Blended, altered), size_of::<Blended>()], [4, 8, 12]);
     }
 
     /// The fields of the answers with counts stand where the library puts them.

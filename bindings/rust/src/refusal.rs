@@ -1,7 +1,7 @@
 //! Why the library refuses a call, and why a call of the builder is not carried out.
 use std::{error, fmt};
 
-/// Why the library refused a sheet, a patch, a call of a canvas or a clip order.
+/// Why the library refused a sheet, a patch, a call of a canvas, a blend or a clip order.
 #[derive(Clone, Copy, Debug, PartialEq, Eq)]
 #[non_exhaustive]
 pub enum Refusal {
@@ -25,6 +25,8 @@ pub enum Refusal {
     Scratch,
     /// 10
     Difference,
+    /// 11
+    Ink,
     /// 12
     State,
     /// 13
@@ -43,7 +45,7 @@ pub enum Refusal {
 
 impl Refusal {
     /// Every refusal that a call gives.
-    pub const ALL: [Refusal; 16] = [
+    pub const ALL: [Refusal; 17] = [
         Refusal::SheetLength,
         Refusal::Header,
         Refusal::Pairs,
@@ -54,6 +56,7 @@ impl Refusal {
         Refusal::Pixels,
         Refusal::Scratch,
         Refusal::Difference,
+        Refusal::Ink,
         Refusal::State,
         Refusal::Points,
         Refusal::Many,
@@ -75,6 +78,7 @@ impl Refusal {
             Refusal::Pixels => 8,
             Refusal::Scratch => 9,
             Refusal::Difference => 10,
+            Refusal::Ink => 11,
             Refusal::State => 12,
             Refusal::Points => 13,
             Refusal::Many => 14,
@@ -106,6 +110,7 @@ impl Refusal {
             Refusal::Pixels => "The pixels lent are not pitch times height.",
             Refusal::Scratch => "The scratch lent is less than is needed.",
             Refusal::Difference => "The sheets differ in size, ground or item count, or in a push or pop of a clip.",
+            Refusal::Ink => "An ink of a blend is over 255.",
             Refusal::State => "The state is none that a canvas can be in.",
             Refusal::Points => "A polygon or polyline has over 64 points.",
             Refusal::Many => "The sheets differ in more than 32 shapes.",

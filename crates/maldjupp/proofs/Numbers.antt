@@ -1,4 +1,5 @@
--- The number of a call with a brush, by whether its kind is over 3. Assumes nothing.
+-- The number of a call with a brush, by whether its kind is over 3, and of a shadow, by whether its `skip` is over 1. Assumes
+-- nothing.
 use mathlib.Core.Path.{_≡_, refl}
 use mathlib.Core.Bool.{Bool, true, false, cond, _&&_}
 use mathlib.Core.List.{List}
@@ -14,24 +15,34 @@ use Rattle.gfx.specs.Calls.{unless, andThen, pxNumber, shapeNumber}
 use Rattle.gfx.specs.Points.{pointsOk, coordsOk, pointsNumber}
 use Rattle.poly.specs.Poly.{polyNeed, polyNumber}
 use Rattle.maldjupp.specs.declared.brush.Brush.{Brush}
-use Rattle.maldjupp.specs.Brushes.{paintOf, kindOk, brushNumber, kindNumber, pointsBrushNumber, pointsKindNumber}
+use Rattle.maldjupp.specs.Brushes.{paintOf, kindOk, brushNumber, fiveNumber, pointsBrushNumber, pointsKindNumber}
+use Rattle.maldjupp.specs.Skips.{skipOk, skipNumber}
 
 module _ (c : Canvas) (n : ℕ) where
-  pub kind-some : kindNumber c n ≡ 0 → ⊥
-  unfolding kindNumber
-  kind-some e = five (then-open (pxNumber c n) 5 e .1)
+  pub five-some : fiveNumber c n ≡ 0 → ⊥
+  unfolding fiveNumber
+  five-some e = five (then-open (pxNumber c n) 5 e .1)
     where
       five : _≡_ {A = ℕ} 5 0 → ⊥
       five e = omega arith
 
   module _ (b : Brush) (ok : Bool) where
-    pub kind-over : kindOk b ≡ false → kindNumber c n ≡ brushNumber c n b ok
-    unfolding kindNumber brushNumber
+    pub kind-over : kindOk b ≡ false → fiveNumber c n ≡ brushNumber c n b ok
+    unfolding fiveNumber brushNumber
     kind-over e = rw e
 
     pub kind-fits : kindOk b ≡ true → shapeNumber c n ok ≡ brushNumber c n b ok
     unfolding shapeNumber brushNumber
     kind-fits e = rw e
+
+  module _ (skip : ℕ) (ok : Bool) where
+    pub skip-over : skipOk skip ≡ false → fiveNumber c n ≡ skipNumber c n skip ok
+    unfolding fiveNumber skipNumber
+    skip-over e = rw e
+
+    pub skip-fits : skipOk skip ≡ true → shapeNumber c n ok ≡ skipNumber c n skip ok
+    unfolding shapeNumber skipNumber
+    skip-fits e = rw e
 
   module _ (pts : List Float) where
     pub points-kind-some : pointsKindNumber c n pts ≡ 0 → ⊥

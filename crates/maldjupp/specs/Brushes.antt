@@ -1,5 +1,5 @@
--- A paint as it crosses to C: its kind, two colours and four floats, as in a sheet (document 01, "The sheet"). A kind over 3 is refused by
--- 5, which stands where it does for an item: after 13 and before 6. Assumes nothing.
+-- A paint as it crosses to C: its kind, two colours and four floats, as in a sheet (document 01, "The sheet"). A kind over 3 is
+-- refused by 5, which stands where it does for an item: after 13 and before 6. Assumes nothing.
 use mathlib.Core.Bool.{Bool, _&&_}
 use mathlib.Core.List.{List, [], _∷_}
 use Prim.Native.Nat.{ℕ}
@@ -49,9 +49,9 @@ pointsBrushNumber c n pts b words =
     (unless (coordsOk pts && paintOk (paintOf b)) 6
     (unless (leb (polyNeed pts) words) 9 0))))
 
--- the two where the kind is over 3
-unfoldable pub kindNumber : Canvas → ℕ → ℕ
-kindNumber c n = andThen (pxNumber c n) 5
+-- the two where the kind is over 3; the first is also that of a shadow whose `skip` is over 1 (Skips)
+unfoldable pub fiveNumber : Canvas → ℕ → ℕ
+fiveNumber c n = andThen (pxNumber c n) 5
 
 unfoldable pub pointsKindNumber : Canvas → ℕ → List Float → ℕ
 pointsKindNumber c n pts = andThen (pxNumber c n) (unless (pointsOk pts) 13 5)

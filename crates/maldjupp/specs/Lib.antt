@@ -1,2 +1,3 @@
--- The definitions that the contracts of `maldjupp` cite. Assumes nothing.
+-- The definitions that the contracts of `maldjupp` cite: Brushes of a paint, Skips of a shadow. Assumes nothing.
 pub mod Brushes
+pub mod Skips

@@ -5,7 +5,7 @@ use gfx::Canvas;
 use gfx::points_ok;
 use paints::Paint;
 ghost use mathlib.Core.Path.{_≡_};
-ghost use Rattle.maldjupp.specs.Brushes.{paintOf, kindNumber, pointsKindNumber};
+ghost use Rattle.maldjupp.specs.Brushes.{paintOf, fiveNumber, pointsKindNumber};
 
 // As in a sheet: a kind of 0 to 3, two colours and four numbers. What the kind does not use is not read.
 #[repr(C)]
@@ -51,9 +51,9 @@ impl Brush {
     }
 }
 
-// The number of a call on n lent words whose brush has a kind over 3.
-pub fn kind_number(canvas: Canvas, n: usize) -> u32
-    ensures { λ r. ⌜ r ≡ kindNumber canvas n ⌝ }
+// The number of a call on n lent words that 5 is given for: its brush has a kind over 3, or the `skip` of its shadow is over 1.
+pub fn five_number(canvas: Canvas, n: usize) -> u32
+    ensures { λ r. ⌜ r ≡ fiveNumber canvas n ⌝ }
 {
     let number = canvas.px_number(n);
     if number != 0 {
@@ -62,7 +62,7 @@ pub fn kind_number(canvas: Canvas, n: usize) -> u32
     5
 }
 
-// The same of a call with points.
+// The same of a call with points, whose brush has a kind over 3.
 pub fn points_kind_number(canvas: Canvas, n: usize, pts: &[f32]) -> u32
     ensures { λ r. ⌜ r ≡ pointsKindNumber canvas n (now (pts .entry)) ⌝ }
 {

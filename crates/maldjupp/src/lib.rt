@@ -1,8 +1,11 @@
-// The static library: sheet calls, clip orders and canvas calls for C and Rust. A slice passes as a pointer and a length, a struct by value.
+// The static library for C and Rust: sheet calls, clip orders, the blend of one pixel, and canvas calls. A slice passes as a
+// pointer and a length, a struct by value.
 pub mod brush;
 pub mod canvas;
 pub mod shapes;
 
+use color::BlendAnswer;
+use color::blend;
 use encode::Written;
 use measure::measure;
 use orders::clip_order;
@@ -12,14 +15,15 @@ use redraw::Reply;
 use redraw::Room;
 ghost use mathlib.Core.Path.{_≡_};
 ghost use lib.ListN.{length};
+ghost use Rattle.color.specs.Inks.{blendOf};
 ghost use Rattle.encode.specs.Encode.{Wrote};
 ghost use Rattle.items.specs.Format.{format, zeroWord};
 ghost use Rattle.orders.specs.Orders.{orderNumber, orderSheet};
 ghost use Rattle.redraw.specs.Calls.{Painted, Patched};
 ghost use Rattle.redraw.specs.Measure.{measuring};
 
-// What painting a sheet takes: the scratch words that it needs, the most clips saved at once, the pixels of its shapes. Neither pixels nor scratch
-// are lent.
+// What painting a sheet takes: the scratch words that it needs, the most clips saved at once, the pixels of its shapes. Neither
+// pixels nor scratch are lent.
 #[no_mangle]
 pub extern "C" fn maldjupp_measure(sheet: &[u8]) -> Room
     ensures { λ r. ⌜ r ≡ measuring format (now (sheet .entry)) ⌝ }
@@ -27,7 +31,8 @@ pub extern "C" fn maldjupp_measure(sheet: &[u8]) -> Room
     measure(sheet)
 }
 
-// Paints a sheet: every pixel the ground, then its items in their order. The pixel in column x and row y is the word y × pitch + x of px.
+// Paints a sheet: every pixel the ground, then its items in their order. The pixel in column x and row y is the word y × pitch +
+// x of px.
 #[no_mangle]
 pub extern "C" fn maldjupp_paint(
     sheet: &[u8],
@@ -60,4 +65,13 @@ pub extern "C" fn maldjupp_clip_order(number: usize, buf: &mut [u8]) -> Written
     ensures { λ r. ⌜ Wrote (orderNumber number (length (now (buf .entry)))) 0 (orderSheet number) (now (buf .entry)) r (now (buf .exit)) ⌝ }
 {
     clip_order(number, buf)
+}
+
+// The blend of three inks over an old pixel at an alpha, and whether the value differs from the old one. An ink over 255 is
+// refused by 11, whatever the alpha: the value is then 0, and nothing is altered.
+#[no_mangle]
+pub extern "C" fn maldjupp_blend(old: u32, r: u32, g: u32, b: u32, a: u32) -> BlendAnswer
+    ensures { λ p. ⌜ p ≡ blendOf old r g b a ⌝ }
+{
+    blend(old, r, g, b, a)
 }

@@ -1,6 +1,6 @@
 // The canvas calls that draw a shape, and count its steps that altered a pixel's value. A paint comes as a brush.
 use crate::brush::Brush;
-use crate::brush::kind_number;
+use crate::brush::five_number;
 use crate::brush::points_kind_number;
 use color::Color;
 use fill::fill_circle;
@@ -30,6 +30,7 @@ ghost use Rattle.line.specs.Polylines.{polylined, polylineSteps};
 ghost use Rattle.poly.specs.Poly.{Filled};
 ghost use Rattle.shadow.specs.Shadow.{shadowOk, shadowReach, shadowInk};
 ghost use Rattle.maldjupp.specs.Brushes.{paintOf, Brushed, pointsBrushNumber};
+ghost use Rattle.maldjupp.specs.Skips.{skipOf, skipNumber};
 
 // A rectangle with round corners.
 #[no_mangle]
@@ -43,7 +44,7 @@ pub extern "C" fn maldjupp_fill_rrect(
     ensures { λ d. ⌜ Brushed canvas brush (rrectFloats rect r (paintOf brush)) rect r (now (px .entry)) d (now (px .exit)) ⌝ }
 {
     if brush.kind > 3 {
-        let number = kind_number(canvas, px.len());
+        let number = five_number(canvas, px.len());
         return Counted {
             number,
             canvas,
@@ -64,7 +65,7 @@ pub extern "C" fn maldjupp_fill_rect(
     ensures { λ d. ⌜ Brushed canvas brush (rectFloats rect (paintOf brush)) rect f0 (now (px .entry)) d (now (px .exit)) ⌝ }
 {
     if brush.kind > 3 {
-        let number = kind_number(canvas, px.len());
+        let number = five_number(canvas, px.len());
         return Counted {
             number,
             canvas,
@@ -87,7 +88,7 @@ pub extern "C" fn maldjupp_fill_circle(
     ensures { λ d. ⌜ Brushed canvas brush (circleFloats cx cy r (paintOf brush)) (circleRect cx cy r) r (now (px .entry)) d (now (px .exit)) ⌝ }
 {
     if brush.kind > 3 {
-        let number = kind_number(canvas, px.len());
+        let number = five_number(canvas, px.len());
         return Counted {
             number,
             canvas,
@@ -179,7 +180,7 @@ pub extern "C" fn maldjupp_fill_poly(
     fill_poly(canvas, px, pts, brush.paint(), scratch)
 }
 
-// The soft shadow of a rectangle with round corners.
+// The soft shadow of a rectangle with round corners. `skip` is 0 or 1, and 1 leaves out the middle; over 1 is refused by 5.
 #[no_mangle]
 pub extern "C" fn maldjupp_shadow_rrect(
     canvas: Canvas,
@@ -188,9 +189,17 @@ pub extern "C" fn maldjupp_shadow_rrect(
     r: f32,
     blur: f32,
     color: Color,
-    skip: bool,
+    skip: u32,
 ) -> Counted
-    ensures { λ d. ⌜ ShapeCalled (shapeNumber canvas (length (now (px .entry))) (shadowOk rect r blur)) canvas (now (px .entry)) (drawn (canvas .pitch) (canvas .clip) (shadowReach rect blur color) (shadowInk rect r blur color skip) (now (px .entry))) d (now (px .exit)) ⌝ }
+    ensures { λ d. ⌜ ShapeCalled (skipNumber canvas (length (now (px .entry))) skip (shadowOk rect r blur)) canvas (now (px .entry)) (drawn (canvas .pitch) (canvas .clip) (shadowReach rect blur color) (shadowInk rect r blur color (skipOf skip)) (now (px .entry))) d (now (px .exit)) ⌝ }
 {
-    shadow_rrect(canvas, px, rect, r, blur, color, skip)
+    if skip > 1 {
+        let number = five_number(canvas, px.len());
+        return Counted {
+            number,
+            canvas,
+            steps: 0,
+        };
+    }
+    shadow_rrect(canvas, px, rect, r, blur, color, skip == 1)
 }

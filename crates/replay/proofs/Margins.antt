@@ -50,6 +50,7 @@ use Rattle.items.specs.Format.{kind, format, zeroWord}
 use Rattle.items.proofs.Readings.{read-is}
 use Rattle.maldjupp.specs.declared.brush.Brush.{Brush}
 use Rattle.maldjupp.specs.Brushes.{paintOf, brushNumber, pointsBrushNumber}
+use Rattle.maldjupp.specs.Skips.{skipNumber}
 use Rattle.replay.specs.Margin.{Kept, Margin}
 
 kept-same : {pitch w : ℕ} {px px′ : List ℕ} → px′ ≡ px → Kept pitch w px px′
@@ -101,6 +102,10 @@ points-brush-valid : (c : Canvas) (n : ℕ) (pts : List Float) (b : Brush) (word
 unfolding pointsBrushNumber
 points-brush-valid c n pts b words e = px-valid c n _ e
 
+skip-valid : (c : Canvas) (n skip : ℕ) (ok : Bool) → skipNumber c n skip ok ≡ 0 → validOf c ≡ true
+unfolding skipNumber
+skip-valid c n skip ok e = px-valid c n _ e
+
 module _ (sheet : List ℕ) (pitch : ℕ) (px : List ℕ) (scratch : List Float) (a : Reply) (px′ : List ℕ) (scratch′ : List Float) where
   painted-kept : Painted zeroWord format sheet pitch px scratch a px′ scratch′ → Kept pitch (widthOf sheet) px px′
   painted-kept did = go (accepted (painting format sheet pitch (length px) (length scratch))) refl
@@ -151,6 +156,8 @@ margin =
           (λ z. drawn-kept c (fillReach rect) (fillInk rect radius (paintOf b)) px (brush-valid c (length px) b ok z));
       brushPolygon = λ c pts b px scratch r px′ scratch′ d. kept-left _ px _ (d .called .called .paints)
           (λ z. drawn-kept c (polyReach pts) (polyInk pts (paintOf b)) px (points-brush-valid c (length px) pts b (length scratch) z));
+      shadow = λ c skip ok reach ink px r px′ d. kept-left _ px _ (d .called .paints)
+          (λ z. drawn-kept c reach ink px (skip-valid c (length px) skip ok z));
       painting = λ sheet pitch px scratch a px′ scratch′ d. painted-kept sheet pitch px scratch a px′ scratch′ d;
       patching = λ old new pitch px scratch a px′ scratch′ d. patched-kept new pitch px scratch a px′ scratch′ old d;
     }

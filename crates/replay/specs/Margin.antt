@@ -28,6 +28,7 @@ use Rattle.redraw.specs.Calls.{Painted, Patched}
 use Rattle.items.specs.Format.{format, zeroWord}
 use Rattle.maldjupp.specs.declared.brush.Brush.{Brush}
 use Rattle.maldjupp.specs.Brushes.{paintOf, Brushed, pointsBrushNumber}
+use Rattle.maldjupp.specs.Skips.{skipNumber}
 
 -- in rows of `pitch` words, px′ is as long as px, and a word of a row past the first w is as it was
 pub record Kept (pitch w : ℕ) (px px′ : List ℕ) : Type 0 where
@@ -67,6 +68,10 @@ pub record Margin : Type 0 where
       → Kept (c .pitch) (up (c .w)) px px′
   pub brushPolygon : (c : Canvas) (pts : List Float) (b : Brush) (px : List ℕ) (scratch : List Float) (r : Counted) (px′ : List ℕ) (scratch′ : List Float)
       → Filled (pointsBrushNumber c (length px) pts b (length scratch)) c px pts (paintOf b) scratch r px′ scratch′
+      → Kept (c .pitch) (up (c .w)) px px′
+  -- `maldjupp_shadow_rrect`, whose `skip_inside` comes as a number
+  pub shadow : (c : Canvas) (skip : ℕ) (ok : Bool) (reach : IRect) (ink : ℕ → ℕ → ℕ → ℕ) (px : List ℕ) (r : Counted) (px′ : List ℕ)
+      → ShapeCalled (skipNumber c (length px) skip ok) c px (drawn (c .pitch) (c .clip) reach ink px) r px′
       → Kept (c .pitch) (up (c .w)) px px′
   -- painting and patching, of the width in the header of the sheet painted, or of the new one
   pub painting : (sheet : List ℕ) (pitch : ℕ) (px : List ℕ) (scratch : List Float) (a : Reply) (px′ : List ℕ) (scratch′ : List Float)

@@ -3,17 +3,17 @@ use mathlib.Core.Path.{_∙_, sym}
 use borrow.Author.Tests.{le-leb, lt-leb}
 use borrow.Author.Needs.{needs}
 use Rattle.gfx.proofs.Answers.{refused-shape}
-use Rattle.maldjupp.proofs.Numbers.{kind-some, kind-over, kind-fits}
+use Rattle.maldjupp.proofs.Numbers.{five-some, kind-over, kind-fits}
 use Rattle.maldjupp.proofs.shapes.maldjupp_fill_circle.Statement.{statement}
 use Rattle.maldjupp.proofs.shapes.maldjupp_fill_circle.Tie as tie
 
-kind-number-requires : tie.Need-kind-number-requires
-kind-number-requires c κs = search needs
+five-number-requires : tie.Need-five-number-requires
+five-number-requires c κs = search needs
 
 returns : tie.Need-returns
 returns c =
-    let e = c .kind-number .ensures in
-    refused-shape (e ∙ kind-over _ _ _ _ (lt-leb _ 3 (c .before .if1 .taken))) (λ z. kind-some _ _ (sym e ∙ z))
+    let e = c .five-number .ensures in
+    refused-shape (e ∙ kind-over _ _ _ _ (lt-leb _ 3 (c .before .if1 .taken))) (λ z. five-some _ _ (sym e ∙ z))
 
 paint-requires : tie.Need-paint-requires
 paint-requires c κs = search needs
@@ -31,4 +31,4 @@ returns-2 c =
     rw (← kind-fits _ _ _ _ (le-leb _ 3 (p .before .before .if1 .left)), ← p .paint .ensures) (d .fill-circle .ensures)
 
 pub maldjupp-fill-circle-spec : {M : Type 1} → statement M
-maldjupp-fill-circle-spec = tie.close (tie.spec kind-number-requires returns paint-requires fill-circle-requires same-length returns-2)
+maldjupp-fill-circle-spec = tie.close (tie.spec five-number-requires returns paint-requires fill-circle-requires same-length returns-2)
