@@ -322,13 +322,15 @@ static void blends(void) {
     check("red over 0 at 128", is_blended(maldjupp_blend(0, 255, 0, 0, 128), 0, 0x800000, true));
     check("alpha 0 leaves the pixel, uppermost byte and all", is_blended(maldjupp_blend(marked, 1, 2, 3, 0), 0, marked, false));
     check("alpha 255 and above: the inks",
-          is_blended(maldjupp_blend(marked, 1, 2, 3, 255), 0, 0x010203, true) && is_blended(maldjupp_blend(old, 1, 2, 3, UINT32_MAX), 0, 0x010203, true));
+          is_blended(maldjupp_blend(marked, 1, 2, 3, 255), 0, 0x010203, true) &&
+              is_blended(maldjupp_blend(old, 1, 2, 3, UINT32_MAX), 0, 0x010203, true));
     /* (200 * 100 + 18 * 155 + 127) / 255 = 89, (0 * 100 + 52 * 155 + 127) / 255 = 32, (86 * 100 + 86 * 155 + 127) / 255 = 86. */
     check("between them, each channel the nearest", is_blended(maldjupp_blend(old, 200, 0, 86, 100), 0, 0x592056, true));
     check("the same value is not altered", is_blended(maldjupp_blend(old, 0x12, 0x34, 0x56, 77), 0, old, false));
     check("the uppermost byte alone is", is_blended(maldjupp_blend(marked, 0x12, 0x34, 0x56, 77), 0, old, true));
-    check("an ink of 256: refused 11, 0 and not altered, whatever the alpha",
-          is_blended(maldjupp_blend(old, 256, 0, 0, 0), MALDJUPP_INK, 0, false) && is_blended(maldjupp_blend(old, 0, 256, 0, 128), MALDJUPP_INK, 0, false) &&
+    check("an ink of 256: refused 11, whatever the alpha",
+          is_blended(maldjupp_blend(old, 256, 0, 0, 0), MALDJUPP_INK, 0, false) &&
+              is_blended(maldjupp_blend(old, 0, 256, 0, 128), MALDJUPP_INK, 0, false) &&
               is_blended(maldjupp_blend(old, 0, 0, UINT32_MAX, 255), MALDJUPP_INK, 0, false));
 }
 
