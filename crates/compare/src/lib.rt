@@ -7,8 +7,8 @@ use geom::IRect;
 use geom::join;
 use gfx::Canvas;
 use items::ground;
-use items::part_at;
 use items::reaches::reach;
+use items::reader::item_bytes;
 use sheet::u16_at;
 ghost use mathlib.Core.Path.{_≡_};
 ghost use mathlib.Core.Bool.{_&&_};
@@ -46,23 +46,14 @@ pub fn same_bytes(a: &[u8], b: &[u8]) -> bool
 fn same_at(old: &[u8], new: &[u8], k: u16) -> bool
     ensures { λ r. ⌜ r ≡ sameAt (now (old .entry)) (now (new .entry)) k ⌝ }
 {
-    let p = part_at(old, k);
-    let from = p.from;
-    let to = p.to;
-    let q = part_at(new, k);
-    let start = q.from;
-    let end = q.to;
-    same_bytes(&old[from..to], &new[start..end])
+    same_bytes(item_bytes(old, k), item_bytes(new, k))
 }
 
 // Whether the item k is a shape.
 fn shape_at(s: &[u8], k: u16) -> bool
     ensures { λ r. ⌜ r ≡ isShape (itemIn (bytesAt (now (s .entry)) k)) ⌝ }
 {
-    let p = part_at(s, k);
-    let from = p.from;
-    let to = p.to;
-    is_shape(&s[from..to])
+    is_shape(item_bytes(s, k))
 }
 
 // Whether both items k are shapes.
@@ -76,10 +67,7 @@ fn both_shapes(old: &[u8], new: &[u8], k: u16) -> bool
 fn reach_at(s: &[u8], k: u16) -> IRect
     ensures { λ r. ⌜ r ≡ reachAt (now (s .entry)) k ⌝ }
 {
-    let p = part_at(s, k);
-    let from = p.from;
-    let to = p.to;
-    reach(&s[from..to])
+    reach(item_bytes(s, k))
 }
 
 // What the reach of the item k, cut by the clip in force at it, has in a canvas.
@@ -102,10 +90,7 @@ fn area_with(area: IRect, canvas: IRect, clip: IRect, old: &[u8], new: &[u8], k:
 fn state_at(s: &[u8], k: u16, state: Canvas) -> Canvas
     ensures { λ r. ⌜ r ≡ stateAfter (itemOf (bytesAt (now (s .entry)) k)) state ⌝ }
 {
-    let p = part_at(s, k);
-    let from = p.from;
-    let to = p.to;
-    state_after(&s[from..to], state)
+    state_after(item_bytes(s, k), state)
 }
 
 fn refusal(number: u32) -> Difference

@@ -1,9 +1,8 @@
 -- The items of a sheet as values (document 01, "The sheet"). An item is read from its own bytes, of which p is a place. Reading is total:
 -- past the end a byte is 0, and a kind that no accepted sheet has is an item that draws nothing. Assumes nothing.
 use Prim.Native.Nat.{ℕ, zero, suc, _+_, _-_, _*_, _≤_}
-use mathlib.Core.Bool.{cond}
 use mathlib.Core.List.{List, [], _∷_}
-use lib.Dec.{ltb, eqb}
+use lib.Dec.{eqb}
 use mathlib.Core.Path.{_≡_}
 use lib.ListN.{length, take, drop}
 use lib.Ieee.{Float}
@@ -16,7 +15,7 @@ use Rattle.paints.specs.declared.Paint.{Paint}
 use Rattle.paints.specs.declared.Paint.the-variants.{Solid, VGrad, Linear, Radial}
 use Rattle.sheet.specs.Bytes.{byteAt, floatAt, lookup}
 use Rattle.sheet.specs.Kinds.{kindAt, pointsAt}
-use Rattle.sheet.specs.Check.{countOf, bytesAt}
+use Rattle.sheet.specs.Check.{bytesAt}
 use Rattle.items.specs.declared.Item.{Item}
 use Rattle.items.specs.declared.Item.the-variants.{Push, Pop, Fill, Stroke, Line, Poly, Shadow, Chain, Unknown}
 
@@ -84,10 +83,6 @@ readItem s p =
 -- the item that some bytes are
 abbrev pub itemOf : List ℕ → Item
 itemOf b = readItem b 0
-
--- the item k, counted from 0, of a sheet that has it
-unfoldable pub itemAt : List ℕ → ℕ → Item
-itemAt s k = cond (ltb k (countOf s)) (itemOf (bytesAt s k)) Unknown
 
 -- the bytes from one place to another are those of the item k
 pub record Lies (s : List ℕ) (k from to : ℕ) : Type 0 where

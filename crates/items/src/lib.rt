@@ -8,7 +8,8 @@ use sheet::f32_at;
 use sheet::u16_at;
 ghost use mathlib.Core.Path.{_≡_};
 ghost use Prim.Native.Nat.{_<_, min};
-ghost use Rattle.items.specs.Items.{readColor, readPt, readRect, readPaint, readFill, readStroke, readLine, readPoly, readShadow, readChain, readItem, itemOf, itemAt, Lies, coordsFrom, groundOf};
+ghost use Rattle.sheet.specs.Check.{bytesAt};
+ghost use Rattle.items.specs.Items.{readColor, readPt, readRect, readPaint, readFill, readStroke, readLine, readPoly, readShadow, readChain, readItem, itemOf, Lies, coordsFrom, groundOf};
 
 pub mod reaches;
 pub mod reader;
@@ -253,9 +254,9 @@ fn least(a: usize, b: usize) -> usize
 }
 
 // Where the bytes of an item lie.
-pub struct Part {
-    pub from: usize,
-    pub to: usize,
+struct Part {
+    from: usize,
+    to: usize,
 }
 
 // Where the bytes of the item k lie, of whose pair bytes may lie past the end.
@@ -270,7 +271,7 @@ fn cut_part(s: &[u8], k: u16) -> Part
 }
 
 // Where the bytes of the item k lie; no byte past the sheet's end is one of them. One test for the pair, so that none of its bytes needs its own.
-pub fn part_at(s: &[u8], k: u16) -> Part
+fn part_at(s: &[u8], k: u16) -> Part
     ensures { λ r. ⌜ Lies (now (s .entry)) k (r .from) (r .to) ⌝ }
 {
     if s.len() < 16 + 4 * k as usize {
@@ -283,22 +284,19 @@ pub fn part_at(s: &[u8], k: u16) -> Part
     Part { from, to }
 }
 
+// The bytes of the item k, as a part of the sheet.
+pub(crate) fn bytes_at(s: &[u8], k: u16) -> &[u8]
+    ensures { λ r. ⌜ now r ≡ bytesAt (now (s .entry)) k ⌝ }
+{
+    let p = part_at(s, k);
+    let from = p.from;
+    let to = p.to;
+    &s[from..to]
+}
+
 // The item that some bytes are.
 pub fn item_of(b: &[u8]) -> Item
     ensures { λ r. ⌜ r ≡ itemOf (now (b .entry)) ⌝ }
 {
     read_item(b, 0)
-}
-
-// The item k, counted from 0; `Unknown` where the sheet has none.
-pub fn item_at(s: &[u8], k: usize) -> Item
-    ensures { λ r. ⌜ r ≡ itemAt (now (s .entry)) k ⌝ }
-{
-    if k >= u16_at(s, 8) {
-        return Item::Unknown;
-    }
-    let p = part_at(s, k as u16);
-    let from = p.from;
-    let to = p.to;
-    item_of(&s[from..to])
 }

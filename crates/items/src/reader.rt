@@ -1,34 +1,30 @@
-// A sheet being read: its lent bytes and the number of the next item, counted from 0. Callers that hold no such struct use `item_at`.
-use crate::Item;
-use crate::item_at;
+// A sheet being read: its lent bytes and the number of the next item, counted from 0. Whoever holds no such struct reads by `item_bytes`.
+use crate::bytes_at;
 ghost use mathlib.Core.Path.{_≡_};
-ghost use Rattle.items.specs.Items.{itemAt};
+ghost use Rattle.sheet.specs.Check.{bytesAt};
 
 pub struct Reader<'a> {
     pub sheet: &'a [u8],
-    pub next: usize,
+    pub next: u16,
 }
 
-// The reader of a sheet, before its first item.
-pub fn new<'a>(sheet: &'a [u8]) -> Reader<'a>
-    ensures { λ r. ⌜ (r .sheet ≡ sheet .entry) × (r .next ≡ 0) ⌝ }
+// The reader of a sheet, before one of its items.
+pub fn new<'a>(sheet: &'a [u8], next: u16) -> Reader<'a>
+    ensures { λ r. ⌜ (r .sheet ≡ sheet .entry) × (r .next ≡ next) ⌝ }
 {
-    Reader { sheet, next: 0 }
+    Reader { sheet, next }
 }
 
-// The next item.
-pub fn next<'a>(r: Reader<'a>) -> Item
-    ensures { λ i. ⌜ i ≡ itemAt (now (r .entry .sheet)) (r .entry .next) ⌝ }
+// The bytes of the next item: a part of the sheet.
+pub fn bytes<'a>(r: Reader<'a>) -> &'a [u8]
+    ensures { λ b. ⌜ now b ≡ bytesAt (now (r .entry .sheet)) (r .entry .next) ⌝ }
 {
-    item_at(r.sheet, r.next)
+    bytes_at(r.sheet, r.next)
 }
 
-// The reader moved to another item.
-pub fn moved<'a>(r: Reader<'a>, next: usize) -> Reader<'a>
-    ensures { λ q. ⌜ (q .sheet ≡ r .entry .sheet) × (q .next ≡ next) ⌝ }
+// The bytes of the item k of a sheet.
+pub fn item_bytes(s: &[u8], k: u16) -> &[u8]
+    ensures { λ b. ⌜ now b ≡ bytesAt (now (s .entry)) k ⌝ }
 {
-    Reader {
-        sheet: r.sheet,
-        next,
-    }
+    bytes(new(s, k))
 }

@@ -7,9 +7,9 @@ use draw::clipped;
 use draw::larger;
 use fill::fill_reach;
 use geom::IRect;
-use items::part_at;
 use items::reaches::need;
 use items::reaches::reach;
+use items::reader::item_bytes;
 use items::rect_of;
 use redraw::Room;
 use sheet::byte_at;
@@ -70,17 +70,15 @@ fn walk(s: &[u8]) -> Tally
     let mut most = 0;
     let mut pixels: u64 = 0;
     for k in 0..n {
-        let p = part_at(s, k as u16);
-        let from = p.from;
-        let to = p.to;
-        if is_shape(&s[from..to]) {
-            words = larger(words, words_of(&s[from..to]));
-            let area = reach_of(&s[from..to]);
+        let b = item_bytes(s, k as u16);
+        if is_shape(b) {
+            words = larger(words, words_of(b));
+            let area = reach_of(b);
             let clip = canvas.clip;
             pixels += cells(clipped(area, clip));
             continue;
         }
-        canvas = state_after(&s[from..to], canvas);
+        canvas = state_after(b, canvas);
         most = larger(most, canvas.depth);
     }
     Tally {

@@ -6,8 +6,8 @@ use draw::larger;
 use fill::fill_ground;
 use geom::IRect;
 use items::ground;
-use items::part_at;
 use items::reaches::need;
+use items::reader::item_bytes;
 use redraw::Answer;
 use redraw::Reply;
 use render::render;
@@ -38,10 +38,7 @@ pub fn refusal(number: u32, item: u32) -> Reply
 fn need_at(s: &[u8], k: u16) -> usize
     ensures { λ r. ⌜ r ≡ needOf (bytesAt (now (s .entry)) k) (itemOf (bytesAt (now (s .entry)) k)) ⌝ }
 {
-    let p = part_at(s, k);
-    let from = p.from;
-    let to = p.to;
-    need(&s[from..to])
+    need(item_bytes(s, k))
 }
 
 // The scratch words that a sheet needs.

@@ -7,7 +7,7 @@ use gfx::Canvas;
 use items::Item;
 use items::coords;
 use items::item_of;
-use items::part_at;
+use items::reader::item_bytes;
 use line::line;
 use line::polyline;
 use paints::Paint;
@@ -110,14 +110,12 @@ pub fn render(s: &[u8], canvas: Canvas, px: &mut [u32], scratch: &mut [f32]) -> 
     let mut state = canvas;
     let mut steps: u64 = 0;
     for k in 0..n {
-        let p = part_at(s, k as u16);
-        let from = p.from;
-        let to = p.to;
-        if is_shape(&s[from..to]) {
-            steps += draw_item(&s[from..to], state, px, scratch);
+        let b = item_bytes(s, k as u16);
+        if is_shape(b) {
+            steps += draw_item(b, state, px, scratch);
             continue;
         }
-        state = state_after(&s[from..to], state);
+        state = state_after(b, state);
     }
     steps
 }

@@ -24,49 +24,22 @@ loop-holds c =
     let a = c .before .before .before in
     rw (c .start-state .ensures) (walking-first (a .args .s .now) (a .pre) (c .before .u16-at .result) (c .before .u16-at .ensures .0))
 
-cast-part-at : tie.Need-cast-part-at Inv-loop μ-loop
-cast-part-at c = record { fits = omega (arith, c .before .before .before .u16-at .ensures .1) }
+cast-item-bytes : tie.Need-cast-item-bytes Inv-loop μ-loop
+cast-item-bytes c = record { fits = omega (arith, c .before .before .before .u16-at .ensures .1) }
 
-part-at-requires : tie.Need-part-at-requires Inv-loop μ-loop
-part-at-requires c κs = tt
+item-bytes-requires : tie.Need-item-bytes-requires Inv-loop μ-loop
+item-bytes-requires c κs = tt
 
 -- ---- a shape
 
-sub-is-shape : tie.Need-sub-is-shape Inv-loop μ-loop
-sub-is-shape c = omega (arith, c .part-at .ensures .order)
-
-part-is-shape-start : tie.Need-part-is-shape-start Inv-loop μ-loop
-part-is-shape-start c = let p = c .part-at .ensures in omega (arith, p .order, p .inside)
-
-part-is-shape-end : tie.Need-part-is-shape-end Inv-loop μ-loop
-part-is-shape-end c = let p = c .part-at .ensures in omega (arith, p .order, p .inside)
-
 is-shape-requires : tie.Need-is-shape-requires Inv-loop μ-loop
 is-shape-requires c κs = tt
-
-sub-words-of : tie.Need-sub-words-of Inv-loop μ-loop
-sub-words-of c = omega (arith, c .before .before .before .part-at .ensures .order)
-
-part-words-of-start : tie.Need-part-words-of-start Inv-loop μ-loop
-part-words-of-start c = let p = c .before .before .before .part-at .ensures in omega (arith, p .order, p .inside)
-
-part-words-of-end : tie.Need-part-words-of-end Inv-loop μ-loop
-part-words-of-end c = let p = c .before .before .before .part-at .ensures in omega (arith, p .order, p .inside)
 
 words-of-requires : tie.Need-words-of-requires Inv-loop μ-loop
 words-of-requires c κs = tt
 
 larger-requires : tie.Need-larger-requires Inv-loop μ-loop
 larger-requires c κs = tt
-
-sub-reach-of : tie.Need-sub-reach-of Inv-loop μ-loop
-sub-reach-of c = omega (arith, c .before .before .before .before .before .before .part-at .ensures .order)
-
-part-reach-of-start : tie.Need-part-reach-of-start Inv-loop μ-loop
-part-reach-of-start c = let p = c .before .before .before .before .before .before .part-at .ensures in omega (arith, p .order, p .inside)
-
-part-reach-of-end : tie.Need-part-reach-of-end Inv-loop μ-loop
-part-reach-of-end c = let p = c .before .before .before .before .before .before .part-at .ensures in omega (arith, p .order, p .inside)
 
 reach-of-requires : tie.Need-reach-of-requires Inv-loop μ-loop
 reach-of-requires c κs = tt
@@ -76,12 +49,12 @@ clipped-requires c κs = tt
 
 cells-requires : tie.Need-cells-requires Inv-loop μ-loop
 cells-requires c κs =
-    let l = c .before .before .before .before .before .before .before .before .before .before .before .before in
+    let l = c .before .before .before .before .before .before .before .before .before in
     rw (c .clipped .ensures) (small (l .before .before .before .before .args .s .now) (l .loop .k) (l .loop .canvas) (l .loop .inv .stands) (c .before .before .reach-of .result))
 
 add-pixels : tie.Need-add-pixels Inv-loop μ-loop
 add-pixels c =
-    let l = c .before .before .before .before .before .before .before .before .before .before .before .before .before in
+    let l = c .before .before .before .before .before .before .before .before .before .before in
     let u = l .before .before .u16-at in
     omega (arith, c .cells .ensures .1, u .ensures .1, l .loop .inv .low)
 
@@ -94,30 +67,21 @@ loop-less c = omega arith
 loop-again : tie.Need-loop-again Inv-loop μ-loop
 loop-again c =
     let r = c .before .before .before in
-    let o = r .before .before .before in
-    let t = o .before .before .before in
-    let p = t .before .before .part-at .ensures .bytes in
-    let m = t .before .before .before in
+    let o = r .before .before in
+    let t = o .before .before in
+    let p = t .before .item-bytes .ensures in
+    let m = t .before .before in
     let l = m .before in
     let u = l .before .before .u16-at in
     let a = l .before .before .before .before in
-    let i = rw p at (sym (t .is-shape .ensures) ∙ o .before .before .if1 .taken) in
+    let i = rw p at (sym (t .is-shape .ensures) ∙ o .before .if1 .taken) in
     let met = c .cells .ensures in
-    rw (r .before .before .larger .ensures)
+    rw (r .before .larger .ensures)
     (walking-shape (a .args .s .now) (a .pre) (u .result) (u .ensures .0) (l .loop .canvas) (l .loop .words) (l .loop .most) (l .loop .pixels) (l .loop .k) (l .loop .inv)
     (m .loop-test .taken) i (o .words-of .result) (c .cells .result) (o .words-of .ensures ∙ rw p)
     (met .0 ∙ ap cellsOf (c .before .clipped .ensures ∙ rw (r .reach-of .ensures, p))) (met .1))
 
 -- ---- a push or a pop
-
-sub-state-after : tie.Need-sub-state-after Inv-loop μ-loop
-sub-state-after c = omega (arith, c .before .before .before .part-at .ensures .order)
-
-part-state-after-start : tie.Need-part-state-after-start Inv-loop μ-loop
-part-state-after-start c = let p = c .before .before .before .part-at .ensures in omega (arith, p .order, p .inside)
-
-part-state-after-end : tie.Need-part-state-after-end Inv-loop μ-loop
-part-state-after-end c = let p = c .before .before .before .part-at .ensures in omega (arith, p .order, p .inside)
 
 state-after-requires : tie.Need-state-after-requires Inv-loop μ-loop
 state-after-requires c κs = tt
@@ -133,13 +97,13 @@ loop-less-2 c = omega arith
 
 loop-again-2 : tie.Need-loop-again-2 Inv-loop μ-loop
 loop-again-2 c =
-    let t = c .before .before .before .before in
-    let p = t .before .before .part-at .ensures .bytes in
-    let m = t .before .before .before in
+    let t = c .before .before .before in
+    let p = t .before .item-bytes .ensures in
+    let m = t .before .before in
     let l = m .before in
     let u = l .before .before .u16-at in
     let a = l .before .before .before .before in
-    let i = rw p at (sym (t .is-shape .ensures) ∙ c .before .before .before .if1 .left) in
+    let i = rw p at (sym (t .is-shape .ensures) ∙ c .before .before .if1 .left) in
     rw (c .larger2 .ensures, c .before .state-after .ensures, p)
     (walking-other (a .args .s .now) (a .pre) (u .result) (u .ensures .0) (l .loop .canvas) (l .loop .words) (l .loop .most) (l .loop .pixels) (l .loop .k) (l .loop .inv)
     (m .loop-test .taken) i)
@@ -159,20 +123,11 @@ walk-spec =
     u16-at-requires
     start-state-requires
     loop-holds
-    cast-part-at
-    part-at-requires
-    sub-is-shape
-    part-is-shape-start
-    part-is-shape-end
+    cast-item-bytes
+    item-bytes-requires
     is-shape-requires
-    sub-words-of
-    part-words-of-start
-    part-words-of-end
     words-of-requires
     larger-requires
-    sub-reach-of
-    part-reach-of-start
-    part-reach-of-end
     reach-of-requires
     clipped-requires
     cells-requires
@@ -180,9 +135,6 @@ walk-spec =
     add-k
     loop-less
     loop-again
-    sub-state-after
-    part-state-after-start
-    part-state-after-end
     state-after-requires
     larger-requires-2
     add-k-2

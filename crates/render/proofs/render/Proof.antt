@@ -20,34 +20,16 @@ u16-at-requires c κs = tt
 loop-holds : tie.Need-loop-holds Inv-loop μ-loop
 loop-holds c = run-start _ (c .u16-at .result) _ _ _
 
-cast-part-at : tie.Need-cast-part-at Inv-loop μ-loop
-cast-part-at c = omega (arith, c .before .before .u16-at .ensures .1)
+cast-item-bytes : tie.Need-cast-item-bytes Inv-loop μ-loop
+cast-item-bytes c = omega (arith, c .before .before .u16-at .ensures .1)
 
-part-at-requires : tie.Need-part-at-requires Inv-loop μ-loop
-part-at-requires c κs = tt
+item-bytes-requires : tie.Need-item-bytes-requires Inv-loop μ-loop
+item-bytes-requires c κs = tt
 
 -- ---- a shape
 
-sub-is-shape : tie.Need-sub-is-shape Inv-loop μ-loop
-sub-is-shape c = omega (arith, c .part-at .ensures .order)
-
-part-is-shape-start : tie.Need-part-is-shape-start Inv-loop μ-loop
-part-is-shape-start c = let p = c .part-at .ensures in omega (arith, p .order, p .inside)
-
-part-is-shape-end : tie.Need-part-is-shape-end Inv-loop μ-loop
-part-is-shape-end c = let p = c .part-at .ensures in omega (arith, p .order, p .inside)
-
 is-shape-requires : tie.Need-is-shape-requires Inv-loop μ-loop
 is-shape-requires c κs = tt
-
-sub-draw-item : tie.Need-sub-draw-item Inv-loop μ-loop
-sub-draw-item c = omega (arith, c .before .before .before .part-at .ensures .order)
-
-part-draw-item-start : tie.Need-part-draw-item-start Inv-loop μ-loop
-part-draw-item-start c = let p = c .before .before .before .part-at .ensures in omega (arith, p .order, p .inside)
-
-part-draw-item-end : tie.Need-part-draw-item-end Inv-loop μ-loop
-part-draw-item-end c = let p = c .before .before .before .part-at .ensures in omega (arith, p .order, p .inside)
 
 draw-item-requires : tie.Need-draw-item-requires Inv-loop μ-loop
 draw-item-requires c κs = tt
@@ -55,7 +37,7 @@ draw-item-requires c κs = tt
 add-steps : tie.Need-add-steps Inv-loop μ-loop
 add-steps c =
     let d = c .before .before .before .before .draw-item in
-    let l = c .before .before .before .before .before .before .before .before .before .before .before .before .before in
+    let l = c .before .before .before .before .before .before .before .before .before .before .before in
     let most : d .result ≤ 536870912 = rw (d .ensures .counts) (item-few _ _) in
     omega (arith, most, l .loop .inv .few, l .loop .inv .within, l .before .u16-at .ensures .1)
 
@@ -68,23 +50,14 @@ loop-less c = omega arith
 loop-again : tie.Need-loop-again Inv-loop μ-loop
 loop-again c =
     let d = c .before .before .before .before in
-    let o = d .before .before .before .before in
-    let p = o .before .before .before in
+    let o = d .before .before .before in
+    let p = o .before .before in
     let l = p .before .before in
-    let e = p .part-at .ensures .bytes in
+    let e = p .item-bytes .ensures in
     run-shape _ (l .before .u16-at .result) _ _ _ (l .loop .inv) (p .before .loop-test .taken) (rw e at (sym (o .before .is-shape .ensures) ∙ o .if1 .taken))
     (rw e at (d .draw-item .ensures)) (c .before .before .before .px .given) (c .before .scratch .given)
 
 -- ---- a push or a pop
-
-sub-state-after : tie.Need-sub-state-after Inv-loop μ-loop
-sub-state-after c = omega (arith, c .before .before .before .part-at .ensures .order)
-
-part-state-after-start : tie.Need-part-state-after-start Inv-loop μ-loop
-part-state-after-start c = let p = c .before .before .before .part-at .ensures in omega (arith, p .order, p .inside)
-
-part-state-after-end : tie.Need-part-state-after-end Inv-loop μ-loop
-part-state-after-end c = let p = c .before .before .before .part-at .ensures in omega (arith, p .order, p .inside)
 
 state-after-requires : tie.Need-state-after-requires Inv-loop μ-loop
 state-after-requires c κs = tt
@@ -97,10 +70,10 @@ loop-less-2 c = omega arith
 
 loop-again-2 : tie.Need-loop-again-2 Inv-loop μ-loop
 loop-again-2 c =
-    let o = c .before .before in
-    let p = o .before .before .before in
+    let o = c .before in
+    let p = o .before .before in
     let l = p .before .before in
-    let e = p .part-at .ensures .bytes in
+    let e = p .item-bytes .ensures in
     rw (c .state-after .ensures, e)
     (run-other _ (l .before .u16-at .result) _ _ _ (l .loop .inv) (p .before .loop-test .taken) (rw e at (sym (o .before .is-shape .ensures) ∙ o .if1 .left)))
 
@@ -124,23 +97,14 @@ render-spec =
     μ-loop
     u16-at-requires
     loop-holds
-    cast-part-at
-    part-at-requires
-    sub-is-shape
-    part-is-shape-start
-    part-is-shape-end
+    cast-item-bytes
+    item-bytes-requires
     is-shape-requires
-    sub-draw-item
-    part-draw-item-start
-    part-draw-item-end
     draw-item-requires
     add-steps
     add-k
     loop-less
     loop-again
-    sub-state-after
-    part-state-after-start
-    part-state-after-end
     state-after-requires
     add-k-2
     loop-less-2
