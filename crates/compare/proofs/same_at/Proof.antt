@@ -18,7 +18,7 @@ same-bytes-requires c κs = tt
 returns : tie.Need-returns
 unfolding sameAt
 returns c =
-    let a = c .before .before .before .args in
+    let a = c .before .before .before .before .before .args in
     c .same-bytes .ensures ∙ rw (c .before .before .item-bytes .ensures, c .before .item-bytes2 .ensures) (sym (same-in (bytesAt (a .old .now) (a .k)) (bytesAt (a .new .now) (a .k))))
 
 pub same-at-spec : {M : Type 1} → statement M
