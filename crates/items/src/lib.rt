@@ -270,7 +270,8 @@ fn cut_part(s: &[u8], k: u16) -> Part
     Part { from, to }
 }
 
-// Where the bytes of the item k lie; no byte past the sheet's end is one of them. One test for the pair, so that none of its bytes needs its own.
+// Where the bytes of the item k lie; no byte past the sheet's end is one of them. One test for the pair, so that none of its bytes
+// needs its own.
 fn part_at(s: &[u8], k: u16) -> Part
     ensures { λ r. ⌜ Lies (now (s .entry)) k (r .from) (r .to) ⌝ }
 {
