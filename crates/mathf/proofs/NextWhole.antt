@@ -14,7 +14,7 @@ use lib.Ieee.Fits.{down-pos, neg-fits}
 use lib.Ieee.Scale.{finite}
 use Rattle.mathf.specs.F32.{_≤ᶠ_}
 use Rattle.mathf.specs.Whole.{floorOf, ceilOf, wholeOf, cutDown, takenUp}
-use Rattle.mathf.specs.Trust.{LastBefore}
+use Rattle.mathf.specs.Trust.{HasSign, LastBefore}
 use Rattle.mathf.proofs.Floors.{fit-parts, whole-value, ceil-is}
 use Rattle.mathf.proofs.Bounds.{cut-le, taken-le}
 use Rattle.mathf.proofs.Compared.{AtMost, left-zero, right-zero, le-of, of-le, whole-value-of, le-neg, neg-neg, neg-finite}
@@ -75,6 +75,7 @@ floor-last (fin false m e) t p =
     record {
       sign = false;
       size = q;
+      signed = refl;
       whole = v;
       itself = le-of (wholeOf false q) (fin false m e) false false q 1 a d (pow-pos 0) (down-pos e) v (refl, refl) (le-trans (div-mul-le-self a d) (le-of-eq (sym (mul-one a))));
       last = λ s n h.
@@ -89,6 +90,7 @@ floor-last (fin true m e) t p =
     record {
       sign = true;
       size = q;
+      signed = refl;
       whole = v;
       itself = le-of (wholeOf true q) (fin true m e) true true q 1 a d (pow-pos 0) (down-pos e) v (refl, refl) (le-trans (le-of-eq (mul-one a)) (taken-ge a d (down-pos e)));
       last = λ s n h.
@@ -103,11 +105,20 @@ neg-value nan s a c v = v
 neg-value (inf t) s a c v = v
 neg-value (fin t m e) s a c v = (ap not (v .0), v .1)
 
+-- the sign of x, from that of -x
+neg-sign : (x : Float) (s : Bool) → HasSign (neg x) s → HasSign x (not s)
+unfolding neg
+neg-sign nan s v = v
+neg-sign (inf t) s v = v
+neg-sign (fin true m e) s v = ap not v
+neg-sign (fin false m e) s v = ap not v
+
 upside-down : (x r : Float) → LastBefore (λ a b. a ≤ᶠ b) (neg x) r → LastBefore (λ a b. b ≤ᶠ a) x (neg r)
 unfolding neg
 upside-down x r l = record {
   sign = not (l .sign);
   size = l .size;
+  signed = neg-sign x (l .sign) (l .signed);
   whole = neg-value r (l .sign) (l .size) 1 (l .whole);
   itself = subst (λ (z : Float). T (le z (neg r))) (neg-neg x) (le-neg r (neg x) (l .itself));
   last = λ s n h. subst (λ (z : Float). T (le (neg r) z)) (neg-neg (fin s n (pos 0))) (le-neg (fin (not s) n (pos 0)) r (l .last (not s) n (le-neg x (fin s n (pos 0)) h)));

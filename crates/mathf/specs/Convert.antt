@@ -1,4 +1,5 @@
--- A float to an integer, as Rust's `as`: cut towards zero; past the type's ends the nearest end; 0 for a NaN. A signed type has one bit less beside its sign. Assumes nothing.
+-- A float to an integer, as Rust's `as`: cut towards zero; past the type's ends the nearest end; 0 for a NaN. A signed type has
+-- one bit less beside its sign. Assumes nothing.
 use Prim.Native.Nat.{ℕ}
 use lib.IntN.{ℤ}
 use lib.Ieee.{Float, toUnsigned, toSigned}

@@ -1,5 +1,6 @@
 -- f32 arithmetic in short: each operator is one operation of IEEE 754's binary32, rounded once, to nearest, ties to even.
--- A literal is named by its bit pattern, as the compiled code has it. Every formula of every crate is written with these. Assumes nothing.
+-- A literal is named by its bit pattern, as the compiled code has it. Every formula of every crate is written with these. Assumes
+-- nothing.
 use Prim.Native.Nat.{ℕ}
 use mathlib.Core.Bool.{Bool}
 use lib.IntN.{ℤ, pos}

@@ -3,7 +3,8 @@ use mathlib.Core.Bool.{cond}
 use lib.Ieee.{Float, lt, ne, neg}
 use Rattle.mathf.specs.F32.{f0, f1}
 
--- the other where one is a NaN, since a comparison with a NaN is false and only a NaN differs from itself; the first where neither is smaller
+-- the other where one is a NaN, since a comparison with a NaN is false and only a NaN differs from itself; the first where
+-- neither is smaller
 abbrev pub minOf : Float → Float → Float
 minOf a b = cond (lt b a) b (cond (ne a a) b a)
 
