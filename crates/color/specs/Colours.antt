@@ -55,8 +55,10 @@ darkenOf c t = mixOf c (rgbaOf 0 0 0 (c .a)) t
 -- 0.2126, 0.7152 and 0.0722, as f32
 abbrev pub lumaOf : Color → Float
 lumaOf c =
-    (ofBits binary32 0x3e59_b3d0 *ᶠ ofℕᶠ (c .r) +ᶠ ofBits binary32 0x3f37_1759 *ᶠ ofℕᶠ (c .g) +ᶠ ofBits binary32 0x3d93_dd98 *ᶠ ofℕᶠ (c .b))
-    /ᶠ f255
+    let r = ofBits binary32 0x3e59_b3d0 *ᶠ ofℕᶠ (c .r) in
+    let g = ofBits binary32 0x3f37_1759 *ᶠ ofℕᶠ (c .g) in
+    let b = ofBits binary32 0x3d93_dd98 *ᶠ ofℕᶠ (c .b) in
+    (r +ᶠ g +ᶠ b) /ᶠ f255
 
 -- one channel of two pixels mixed in 256 parts, t of them the second's, and the mixed pixel
 abbrev pub mixed256 : ℕ → ℕ → ℕ → ℕ

@@ -93,8 +93,8 @@ fn chosen(dst: u32, ink: u32, mix: u32, a: u32) -> u32
     }
 }
 
-// The same as `over`, for a loop whose alpha differs from pixel to pixel: the mix of a byte is worked out first, then chosen or not, so
-// that several pixels can be done at once.
+// The same as `over`, for a loop whose alpha differs from pixel to pixel: the mix of a byte is worked out first, then chosen or
+// not, so that several pixels can be done at once.
 fn mix_wide(dst: u32, c: Color, a: u32) -> u32
     ensures { λ p. ⌜ p ≡ Inks.over dst c a ⌝ }
 {
