@@ -1,4 +1,5 @@
-// What the proved functions of mathf and color answer. A case has the function's number, its inputs, and the answer's low and high word.
+// What the proved functions of mathf and color answer. A case has the function's number, its inputs, and the answer's low and
+// high word.
 use crate::word::float;
 use crate::word::float_of;
 use crate::word::int;
@@ -65,6 +66,7 @@ fn color_color(f: u32, a: u32, b: u32, c: u32) -> Color {
         7 => color_of(a).darken(float_of(b)),
         8 => Color::hex(a),
         9 => Color::from_pix(a),
+        14 => Color::BLACK,
         _ => color::hsv(float_of(a), float_of(b), float_of(c)),
     }
 }

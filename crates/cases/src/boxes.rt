@@ -49,7 +49,8 @@ fn rect_of(f: u32, r: Rect, o: Rect) -> Rect {
         5 => r.inset(o.x),
         6 => r.offset(o.x, o.y),
         7 => r.intersect(o),
-        _ => r.union(o),
+        8 => r.union(o),
+        _ => Rect::ZERO,
     }
 }
 
@@ -67,7 +68,7 @@ pub(crate) fn agrees(case: &[u8]) -> bool {
     let f = word(case, 0);
     let words = from(case, 1);
     let answer = from(case, 9);
-    if f <= 8 {
+    if (f <= 8) | (f == 13) {
         return same_rect(rect_of(f, rect(words), rect(from(words, 4))), answer);
     }
     same_box(box_of(f, words), irect(answer))

@@ -1,6 +1,6 @@
-// Canvas calls: a case has the call, four words of arguments, the count of the words of px with their base and step, the state (72 words), then
-// the number, four words of answer, what is left in px (a pitch, so many columns, and the value of the first words of each row), and the state
-// left.
+// Canvas calls: a case has the call, four words of arguments, the count of the words of px with their base and step, the state
+// (72 words), then the number, four words of answer, what is left in px (a pitch, so many columns, and the value of the first
+// words of each row), and the state left.
 use crate::answer::color_of;
 use crate::boxes::irect;
 use crate::boxes::rect;

@@ -12,7 +12,8 @@ use Rattle.geom.proofs.Bools.{and-left, and-right, split}
 use Rattle.gfx.specs.State.{pushed, unsaved, popped}
 use Rattle.gfx.specs.Calls.{answer, pushNumber}
 use Rattle.gfx.specs.declared.Canvas.{Canvas}
-use Rattle.gfx.proofs.Kept.{Sound, sound-state, push-clip-sound, pop-sound}
+use Rattle.gfx.specs.Sound.{Sound}
+use Rattle.gfx.proofs.Kept.{sound-state, push-clip-sound, pop-sound}
 use Rattle.items.specs.Format.{drawnAs}
 use Rattle.items.specs.declared.Item.{Item}
 use Rattle.items.specs.declared.Item.the-variants.{Push, Pop, Fill, Stroke, Line, Poly, Shadow, Chain, Unknown}

@@ -22,7 +22,7 @@ use Rattle.draw.proofs.Frame.{in-pitch}
 use Rattle.gfx.specs.State as state
 use Rattle.gfx.specs.State.{clipOk, inCanvas, rangeIn, placeOk, fourZeros, bothZero}
 use Rattle.gfx.specs.declared.Canvas.{Canvas}
-use Rattle.gfx.proofs.Kept.{Sound}
+use Rattle.gfx.specs.Sound.{Sound}
 use Rattle.gfx.proofs.Places.{places-all}
 use Rattle.gfx.proofs.Valid.{of-valid}
 use Rattle.sheet.specs.Kinds.{depthAfter}

@@ -25,7 +25,7 @@ split : (t : Bool) (P : Bool → Type 0) → (t ≡ true → P true) → (t ≡ 
 split true P y n = y refl
 split false P y n = n refl
 
--- the whole number that is nearest to m / 255, and that no other is
+-- the whole number that is nearest to m / 255: cut down from a half more, or that quotient itself; and only one is
 near : (m : ℕ) → Nearest m ((m + 127) / 255)
 near m = record { within = omega arith; nearest = λ k. omega arith }
 

@@ -19,7 +19,7 @@ pub record Nearest (m n : ℕ) : Type 0 where
   pub within : off m n ≤ 127
   pub nearest : (k : ℕ) → off m n ≤ off m k
 
--- v is the inks r, g and b over the old pixel: each channel is the nearest to the exact mix at alpha a, which counts as 255 above 255.
+-- v is the inks r, g and b over the old pixel: each channel is the nearest to the exact mix at alpha a, and from 255 up at 255.
 -- Alpha 0 leaves the old pixel with its top byte; from alpha 1 up the top byte is 0.
 pub record Over (old r g b a v : ℕ) : Type 0 where
   pub reds : Nearest (exact255 r (red old) (min a 255)) (red v)
@@ -41,7 +41,7 @@ pub record Trust : Type 0 where
   -- of a colour at any alpha, and at its own alpha scaled by any coverage
   pub overs : (p : ℕ) (c : Color) (a : ℕ) → Bytes c → Over p (c .r) (c .g) (c .b) a (over p c a)
   pub covers : (p : ℕ) (c : Color) (cov : ℕ) → Bytes c → Over p (c .r) (c .g) (c .b) (coveredBy (c .a) cov) (overC p c cov)
-  -- the scaled alpha is the nearest to alpha × coverage / 255, a coverage above 255 counting as 255
+  -- the scaled alpha is the nearest to alpha × coverage / 255, and from coverage 255 up it is the alpha
   pub scaled : (a cov : ℕ) → Nearest (a * min cov 255) (coveredBy a cov)
   -- a pixel is the inks over the old one in no other way
   pub only : (old r g b a v w : ℕ) → Over old r g b a v → Over old r g b a w → v ≡ w

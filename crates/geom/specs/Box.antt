@@ -1,4 +1,5 @@
--- Boxes of pixels, half-open: which pixels lie inside, the cut of two boxes, and the smallest box around several. Assumes nothing.
+-- Boxes of pixels, half-open: which pixels lie inside, the cut of two boxes, and the smallest box around several. Assumes
+-- nothing.
 use mathlib.Core.Bool.{Bool, true, false, cond, _&&_, _||_}
 use mathlib.Core.List.{List, [], _∷_}
 use mathlib.Core.Path.{_≡_}
@@ -60,8 +61,8 @@ unfoldable pub HoldsAll : {A : Type 0} → IRect → (A → IRect) → List A �
 HoldsAll big f [] = Unit {0}
 HoldsAll big f (a ∷ l) = Holds big (f a) × HoldsAll big f l
 
--- `box` is the smallest around the boxes that f gives of a list: it holds them, every box that holds them holds it, and an empty one is
--- four zeros
+-- `box` is the smallest around the boxes that f gives of a list: it holds them, every box that holds them holds it, and an empty
+-- one is four zeros
 pub record SmallestAll {A : Type 0} (f : A → IRect) (l : List A) (box : IRect) : Type 0 where
   pub around : HoldsAll box f l
   pub least : (big : IRect) → HoldsAll big f l → Holds big box

@@ -9,7 +9,8 @@ use Rattle.geom.specs.Box.{boxOf, meet}
 use Rattle.geom.specs.Plane.{rectOf, outerOf}
 
 -- (0,0,4,4) with (6,1,9,3) is (6,1,6,3)
-pub apart : meet (boxOf (pos 0) (pos 0) (pos 4) (pos 4)) (boxOf (pos 6) (pos 1) (pos 9) (pos 3)) ≡ boxOf (pos 6) (pos 1) (pos 6) (pos 3)
+pub apart :
+    meet (boxOf (pos 0) (pos 0) (pos 4) (pos 4)) (boxOf (pos 6) (pos 1) (pos 9) (pos 3)) ≡ boxOf (pos 6) (pos 1) (pos 6) (pos 3)
 unfolding meet maxZ minZ
 apart = refl
 

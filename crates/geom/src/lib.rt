@@ -4,7 +4,8 @@ ghost use mathlib.Core.Bool.{_&&_};
 ghost use Rattle.geom.specs.Int.{up, maxZ, minZ};
 ghost use Rattle.geom.specs.Box as Box;
 ghost use Rattle.geom.specs.Box.{boxOf, meet, empty};
-ghost use Rattle.geom.specs.Plane.{ptOf, rectOf, rightOf, bottomOf, cxOf, cyOf, insetOf, offsetOf, intersectOf, unionOf, noArea, outerOf, floatOk, ptOk, rectOk};
+ghost use Rattle.geom.specs.Plane.{ptOf, rectOf, rightOf, bottomOf, cxOf, cyOf, insetOf, offsetOf, intersectOf, unionOf};
+ghost use Rattle.geom.specs.Plane.{noArea, outerOf, floatOk, ptOk, rectOk};
 
 // A point of the plane.
 #[repr(C)]
@@ -60,6 +61,13 @@ impl Pt {
 }
 
 impl Rect {
+    pub const ZERO: Rect = Rect {
+        x: 0.0,
+        y: 0.0,
+        w: 0.0,
+        h: 0.0,
+    };
+
     pub fn new(x: f32, y: f32, w: f32, h: f32) -> Rect
         ensures { λ r. ⌜ r ≡ rectOf x y w h ⌝ }
     {

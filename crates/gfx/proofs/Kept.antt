@@ -1,4 +1,4 @@
--- Pushing and popping a clip leave a state sound: valid, with its pitch in range and its 16 places. Assumes nothing.
+-- An accepted call on a sound state returns a sound one (`stays-sound`). Assumes nothing.
 use mathlib.Core.Path.{_≡_, refl, sym, _∙_}
 use mathlib.Core.Bool.{true, cond, or-true}
 use mathlib.Core.Logic.{⊎-elim}
@@ -24,12 +24,8 @@ use Rattle.draw.specs.Frame.{pitchNumber}
 use Rattle.draw.proofs.Frame.{in-pitch}
 use Rattle.gfx.proofs.Sizes.{size-open, resize-new, push-room, push-box-room}
 use Rattle.gfx.specs.Calls.{raised, newNumber, resizeNumber, sameSize, resized, stateNumber, pushBoxNumber, pushNumber}
+use Rattle.gfx.specs.Sound.{Sound, StaysSound}
 use Rattle.gfx.specs.declared.Canvas.{Canvas}
-
-pub record Sound (c : Canvas) : Type 0 where
-  pub valid : validOf c ≡ true
-  pub rows : pitchNumber (up (c .w)) (c .pitch) ≡ 0
-  pub sized : length (c .saved) ≡ 16
 
 -- ---- a place in use, and a free one
 
@@ -172,3 +168,13 @@ push-clip-i-sound c b s e = push-sound c b s (push-box-room c e)
 pub sound-state : {c : Canvas} → Sound c → stateNumber c ≡ 0
 unfolding stateNumber
 sound-state s = rw (s .valid, s .rows)
+
+pub stays-sound : StaysSound
+stays-sound = record {
+  new = new-sound;
+  resize = resize-sound;
+  push-clip = push-clip-sound;
+  push-clip-i = push-clip-i-sound;
+  pop-clip = pop-sound;
+  state = λ c s. sound-state s;
+}

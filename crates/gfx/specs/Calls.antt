@@ -68,8 +68,8 @@ sizeNumber least w h pitch n = unless (sideOk w && sideOk h) 2 (frameNumber leas
 abbrev pub newNumber : ℤ → ℤ → ℕ → ℕ → ℕ
 newNumber w h pitch n = sizeNumber (up (raised w)) (raised w) (raised h) pitch n
 
--- `resize`: 12 first, then as `new`, with the state's pitch, which must be neither below the width that the state has nor below the one wanted;
--- to the same size it alters nothing
+-- `resize`: 12 first, then as `new`, with the state's pitch, which must be neither below the width that the state has nor below
+-- the one wanted; to the same size it alters nothing
 unfoldable pub resizeNumber : Canvas → ℤ → ℤ → ℕ → ℕ
 resizeNumber c w h n = unless (validOf c) 12 (sizeNumber (max (up (c .w)) (up (raised w))) (raised w) (raised h) (c .pitch) n)
 

@@ -18,6 +18,7 @@ unfoldable pub coordsOk : List Float → Bool
 coordsOk [] = true
 coordsOk (x ∷ xs) = floatOk x && coordsOk xs
 
--- a shape call with points on n lent words: 12, 15, 8, 13, then 6, which reads every coordinate and, by `others`, the other floats given
+-- a shape call with points on n lent words: 12, 15, 8, 13, then 6, which reads every coordinate and, by `others`, the other
+-- floats given
 unfoldable pub pointsNumber : Canvas → ℕ → List Float → Bool → ℕ
 pointsNumber c n pts others = andThen (pxNumber c n) (unless (pointsOk pts) 13 (unless (coordsOk pts && others) 6 0))

@@ -1,5 +1,5 @@
--- The state of a canvas (document 01, "Canvas"): w and h 1 to 2,048, a clip, up to 16 saved clips. Refusal 12 is given for any other state. Its pitch
--- (document 02, 2026-07) is refused by 15 (draw specs/Frame).
+-- The state of a canvas (document 01, "Canvas"): w and h 1 to 2,048, a clip, up to 16 saved clips. Refusal 12 is given for any
+-- other state. Its pitch (document 02, 2026-07) is refused by 15 (draw specs/Frame).
 use mathlib.Core.Bool.{Bool, true, cond, _&&_, _||_}
 use Prim.Native.Nat.{ℕ, zero, suc, _+_, _-_}
 use lib.Dec.{leb, ltb, eqb}

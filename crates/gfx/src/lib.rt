@@ -31,10 +31,12 @@ ghost use Rattle.draw.specs.Areas.{RowFits, AreaFits, drawnIn, area};
 ghost use Rattle.draw.specs.Frame.{framed};
 ghost use lib.IntN.{pos};
 ghost use Rattle.gfx.specs.State.{placeOk, placesOk, frameOk, validOf, freshOf, pushed, unsaved, popped};
-ghost use Rattle.gfx.specs.Calls.{Called, answer, boxAnswer, pixelAnswer, raised, newNumber, resizeNumber, sameSize, resized, resizedPx, stateNumber, pushBoxNumber, pushNumber, pxNumber, clearedTo, shapeNumber, nearestIn, pixelAt};
+ghost use Rattle.gfx.specs.Calls.{Called, answer, boxAnswer, pixelAnswer, raised, newNumber, resizeNumber, sameSize};
+ghost use Rattle.gfx.specs.Calls.{resized, resizedPx, stateNumber, pushBoxNumber, pushNumber, pxNumber, clearedTo};
+ghost use Rattle.gfx.specs.Calls.{shapeNumber, nearestIn, pixelAt};
 
-// A canvas without its pixels: its sides, the words of a row of px, its clip, and up to 16 saved clips, of which `depth` are in use. The pixel in
-// column x and row y is the word y × pitch + x; words of a row past w are no pixels, and no call alters them.
+// A canvas without its pixels: its sides, the words of a row of px, its clip, and up to 16 saved clips, of which `depth` are in
+// use. The pixel in column x and row y is the word y × pitch + x; words of a row past w are no pixels, and no call alters them.
 #[repr(C)]
 pub struct Canvas {
     pub w: i32,
@@ -198,7 +200,8 @@ impl Canvas {
         if ok { 0 } else { 6 }
     }
 
-    // The number that `resize` is refused with, or 0: the pitch must be neither below the width of the state nor below the one wanted.
+    // The number that `resize` is refused with, or 0: the pitch must be neither below the width of the state nor below the one
+    // wanted.
     fn resize_number(self, w: i32, h: i32, n: usize) -> u32
         ensures { λ r. ⌜ r ≡ resizeNumber self w h n ⌝ }
     {
@@ -308,7 +311,8 @@ impl Canvas {
         Done { number, canvas }
     }
 
-    // Another size, whose pixels are zeros, in rows as long as before; the same size alters nothing. A side below 1 is raised to 1.
+    // Another size, whose pixels are zeros, in rows as long as before; the same size alters nothing.
+    // A side below 1 is raised to 1.
     pub fn resize(self, w: i32, h: i32, px: &mut [u32]) -> Done
         ensures { λ r. ⌜ Called (resizeNumber self w h (length (now (px .entry)))) self (resized self w h) (now (px .entry)) (resizedPx self w h (now (px .entry))) r (now (px .exit)) ⌝ }
     {

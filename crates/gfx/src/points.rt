@@ -24,7 +24,8 @@ pub fn coords_ok(pts: &[f32]) -> bool
     true
 }
 
-// The number that a shape call with points is refused with, or 0, by whether the other floats given are finite and within 8,192 of 0.
+// The number that a shape call with points is refused with, or 0, by whether the other floats given are finite and within 8,192
+// of 0.
 pub fn points_number(canvas: Canvas, n: usize, pts: &[f32], others: bool) -> u32
     ensures { λ r. ⌜ r ≡ pointsNumber canvas n (now (pts .entry)) others ⌝ }
 {

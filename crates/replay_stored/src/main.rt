@@ -42,9 +42,8 @@ fn line(name: &[u8], f: u32, t: Tally) {
 // How many functions an area has.
 fn functions(area: u32) -> u32 {
     match area {
-        0 => 14,
-        1 => 13,
-        2 => 12,
+        0 | 1 => 14,
+        2 => 13,
         3 | 5 => 9,
         4 => 6,
         6 => 1,

@@ -2,8 +2,11 @@
 use crate::pattern;
 use kash::color::{self, Color};
 
-pub const NAMES: [&str; 13] =
-    ["blend", "blend_c", "mix", "fade", "alpha", "lighten", "darken", "hex", "from_pix", "hsv", "pix", "luma", "mix_pix"];
+pub const NAMES: [&str; 14] =
+    ["blend", "blend_c", "mix", "fade", "alpha", "lighten", "darken", "hex", "from_pix", "hsv", "pix", "luma", "mix_pix", "BLACK"];
+
+/// The constant, which takes no inputs; those before it are functions.
+pub const BLACK: u32 = 14;
 
 fn color_of(w: u32) -> Color {
     let [r, g, b, a] = w.to_le_bytes();
@@ -43,6 +46,7 @@ pub fn answer(f: u32, [a, b, c, d, e]: [u32; 5]) -> u64 {
         11 => color_of(a).pix() as u64,
         12 => pattern(color_of(a).luma()) as u64,
         13 => color::mix_pix(a, b, c) as u64,
+        BLACK => word(Color::BLACK),
         _ => panic!("color has no function {f}"),
     }
 }

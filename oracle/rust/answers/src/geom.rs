@@ -3,12 +3,16 @@
 use crate::{max, min, pattern};
 use kash::geom::{IRect, Rect};
 
-pub const NAMES: [&str; 12] = [
+pub const NAMES: [&str; 13] = [
     "right", "bottom", "cx", "cy", "inset", "offset", "intersect", "union", "is_empty", "from_rect_outer", "box_intersect", "box_is_empty",
+    "ZERO",
 ];
 
 /// The first function of boxes; those before it take rectangles.
 pub const BOXES: u32 = 11;
+
+/// The constant of rectangles, which takes no inputs; those before it are functions.
+pub const ZERO: u32 = 13;
 
 fn rect(w: &[u32]) -> Rect {
     Rect::new(f32::from_bits(w[0]), f32::from_bits(w[1]), f32::from_bits(w[2]), f32::from_bits(w[3]))
@@ -69,6 +73,7 @@ pub fn answer(f: u32, words: &[u32; 8]) -> [u32; 4] {
         10 => of_box(IRect::from_rect_outer(&r)),
         11 => of_box(irect(&words[..4]).intersect(&irect(&words[4..]))),
         12 => one(irect(&words[..4]).is_empty() as u32),
+        ZERO => of_rect(Rect::ZERO),
         _ => panic!("geom has no function {f}"),
     }
 }

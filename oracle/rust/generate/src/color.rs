@@ -1,7 +1,7 @@
-//! The cases of color: document 01's examples, every alpha, every coverage by steps, ends of every fraction.
+//! The cases of color: document 01's examples, every alpha, every coverage by steps, ends of every fraction; black.
 use crate::Stored;
 use answers::{
-    color::{answer, ALTERED, NAMES},
+    color::{answer, ALTERED, BLACK, NAMES},
     random::{Random, SEED},
 };
 
@@ -118,5 +118,6 @@ pub fn stored() -> Stored {
     blends(&mut cases, &mut random);
     mixes(&mut cases, &mut random);
     hues(&mut cases, &mut random);
+    cases.add(BLACK, [0; 5]);
     Stored { functions: 1..=NAMES.len() as u32, width: 8, cases: cases.0 }
 }

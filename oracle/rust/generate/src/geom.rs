@@ -1,7 +1,7 @@
-//! The cases of geom: document 01's example, extreme floats and integers, and numbers of a canvas's size.
+//! The cases of geom: document 01's example, extreme floats and integers, and numbers of a canvas's size; the rectangle of zeros.
 use crate::Stored;
 use answers::{
-    geom::{answer, BOXES, NAMES},
+    geom::{answer, BOXES, NAMES, ZERO},
     random::{Random, SEED},
 };
 
@@ -43,7 +43,7 @@ pub fn stored() -> Stored {
     let example = [0, 0, 4, 4, 6, 1, 9, 3];
     assert_eq!(answer(BOXES, &example), [6, 1, 6, 3]);
     add(BOXES, example);
-    for f in 1..=NAMES.len() as u32 {
+    for f in 1..ZERO {
         for x in EDGES {
             for w in EDGES {
                 if f == 10 {
@@ -55,5 +55,6 @@ pub fn stored() -> Stored {
             add(f, core::array::from_fn(|_| if f < BOXES { float(&mut random) } else { integer(&mut random) }));
         }
     }
+    add(ZERO, [0; 8]);
     Stored { functions: 1..=NAMES.len() as u32, width: 13, cases }
 }

@@ -150,7 +150,7 @@ fn parts(random: &mut Random) -> [u32; 5] {
 }
 
 fn color_cases(run: &mut Run, random: &mut Random) {
-    for f in 1..=color::NAMES.len() as u32 {
+    for f in 1..color::BLACK {
         run.stored(color::NAMES[f as usize - 1], 1, 8, || {
             let w = parts(random);
             let r = color::answer(f, w);
@@ -170,7 +170,7 @@ fn side(random: &mut Random, f: u32) -> u32 {
 }
 
 fn geom_cases(run: &mut Run, random: &mut Random) {
-    for f in 1..=geom::NAMES.len() as u32 {
+    for f in 1..geom::ZERO {
         run.stored(geom::NAMES[f as usize - 1], 2, 13, || {
             let words = core::array::from_fn(|_| side(random, f));
             let mut case = vec![f];
