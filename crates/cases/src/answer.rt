@@ -87,7 +87,8 @@ fn color_blend_c(dst: u32, c: Color, cov: u32) -> u64 {
     pair(q.value, noted(0, q.altered))
 }
 
-// The low word of an answer is a pixel, a colour or a float's pattern, the high word a refusal's number, and what a blend notes.
+// Function 14 is the constant black. The low word of an answer is a pixel, a colour or a float's pattern, the high word a
+// refusal's number, and what a blend notes.
 fn color_answer(f: u32, a: u32, b: u32, c: u32, d: u32, e: u32) -> u64 {
     match f {
         1 => color_blend(a, b, c, d, e),

@@ -63,7 +63,8 @@ fn box_of(f: u32, words: &[u8]) -> IRect {
     }
 }
 
-// A case: the function, two rectangles or two boxes, and the answer's four words.
+// A case: the function, two rectangles or two boxes, and the answer's four words. Functions 1 to 8 answer a rectangle, and 13 is
+// the constant of zeros.
 pub(crate) fn agrees(case: &[u8]) -> bool {
     let f = word(case, 0);
     let words = from(case, 1);
