@@ -27,7 +27,7 @@ use Rattle.redraw.specs.declared.Answer.{Answer}
 use Rattle.redraw.specs.declared.Reply.{Reply}
 use Rattle.redraw.specs.Drawing.{Kind}
 use Rattle.redraw.specs.Sheet.{Format, Lawful, Sheet, read, reaches, draws, canvas, lentNumber, painting, patching, pixels, accepted, fresh}
-use Rattle.redraw.specs.Calls.{Shown, Call, Painted, Patched, model}
+use Rattle.redraw.specs.Calls.{Shown, Call, Painted, Patched}
 use Rattle.redraw.proofs.Drawn.{outside-kept}
 use Rattle.redraw.proofs.Lists.{past-width, length-fresh, paint-accepted, patch-accepted, read-one, refused-px, pixels-drawn, zero-accepted, patch-numbered, same-pitch, right}
 
@@ -58,7 +58,6 @@ module _ {Word : Type 0} (zeroWord : Word) (F : Format) (law : Lawful F) where
   pub pitch-refused : (pitch : ℕ) (before kept px : List ℕ) (c : Call Word)
       → Patched zeroWord F kept (c .sheet) (c .pitch) px (c .scratch) (c .answered) (c .px-left) (c .scratch-left)
       → Shown F pitch before kept px → (c .pitch ≡ pitch → ⊥) → c .answered .answer .number ≡ 0 → ⊥
-  unfolding model
   pitch-refused pitch before kept px c did s k z =
       let o = patching F kept (c .sheet) (c .pitch) (length px) (length (c .scratch)) in
       let yes = zero-accepted o (patch-numbered F law kept (c .sheet) (c .pitch) (length px) (length (c .scratch))) (ap (λ (a : Answer). a .number) (sym (did .answers)) ∙ z) in

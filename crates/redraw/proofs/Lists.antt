@@ -11,7 +11,7 @@ use lib.IntN.{pos}
 use lib.Dec.{eqb, leb, lit≤}
 use lib.ListN.{length, getD, replicate, length-replicate, getD-replicate, length-append, length-drop}
 use lib.Seq.{ext-getD}
-use borrow.Author.Tests.{eqb-true, eqb-false, leb-true}
+use borrow.Author.Tests.{eqb-true, eqb-false, ne-eqb, leb-true}
 use Rattle.redraw.specs.declared.Answer.{Answer}
 use Rattle.redraw.specs.declared.Reply.{Reply}
 use Rattle.geom.specs.declared.IRect.{IRect}
@@ -19,7 +19,7 @@ use Rattle.geom.proofs.Int.{orderZ}
 use Rattle.geom.specs.Box.{inside, hull}
 use Rattle.redraw.specs.Drawing.{Kind, only, pixelOf, paintedIn, groundIn}
 use Rattle.redraw.specs.Sheet.{Format, Lawful, Sheet, Reading, read, refused, Pair, Change, other, shapes, changeIn, reaches, Outcome, refuses, draws, few, tooMany, canvas, sameHeader, drawsUnless, lentNumber, lent, paintOf, patchBy, patchOf, painting, patching, refusal, answer, pixels, cleared, accepted, fresh}
-use Rattle.redraw.specs.Calls.{Shown, Call, Painted, Patched, model, keptAfter, Follow, Confined, Right, Always}
+use Rattle.redraw.specs.Calls.{Shown, Call, lastOf, Painted, Patched, Follow, keptAfter, Began, Confined, Right, Always}
 use Rattle.geom.proofs.Bools.{and-left, and-right, same-test}
 use Rattle.geom.proofs.Refusals.{passed, then-open}
 use Rattle.geom.proofs.Boxes.{in-of, hull-smallest, out-of-hull}
@@ -174,6 +174,12 @@ unfolding pixels accepted
 refused-px K pitch (refuses n k) px e = refl
 refused-px K pitch (draws s box) px e = absurd (false≢true (sym e))
 
+pub refused-scratch : {Word : Type 0} (zeroWord : Word) (F : Format) (o : Outcome (F .kind .Shape)) (scratch : List Word) → accepted o ≡ false
+    → cleared zeroWord F o scratch ≡ scratch
+unfolding cleared accepted
+refused-scratch zeroWord F (refuses n k) scratch e = refl
+refused-scratch zeroWord F (draws s box) scratch e = absurd (false≢true (sym e))
+
 -- ---- what an accepted call leaves in px: its length, and each of its pixels
 
 module _ (K : Kind) (pitch : ℕ) (s : Sheet (K .Shape)) (box : IRect) (px : List ℕ) where
@@ -249,6 +255,12 @@ module _ {Word : Type 0} (zeroWord : Word) (F : Format) where
 pub Numbered : {Shape : Type 0} → Outcome Shape → Type 0
 Numbered (refuses n k) = 1 ≤ n
 Numbered (draws s box) = Unit {0}
+
+-- a number of 0 is returned exactly where the outcome is accepted
+pub number-tells : {Shape : Type 0} (o : Outcome Shape) → Numbered o → accepted o ≡ eqb (answer o .number) 0
+unfolding Numbered answer refusal accepted
+number-tells (refuses n k) h = sym (ne-eqb n 0 (λ e. omega arith))
+number-tells (draws s box) h = refl
 
 pub zero-accepted : {Shape : Type 0} (o : Outcome Shape) → Numbered o → answer o .number ≡ 0 → accepted o ≡ true
 unfolding Numbered answer refusal accepted
@@ -403,7 +415,7 @@ module _ {Word : Type 0} (zeroWord : Word) (F : Format) (law : Lawful F) where
         shows-old : Shows (F .kind) pitch (canvas (p .to)) (p .to .ground) (p .from .items) px
         shows-old = rw (← same-canvas (p .from) (p .to) (p .header), ← same-ground (p .from) (p .to) (p .header)) shows-held
 
-    pub confined : Accepted → Confined zeroWord F kept px c
+    pub confined : Accepted → Confined F kept px c
     confined p = record {
       old = p .from;
       new = p .to;
@@ -415,39 +427,65 @@ module _ {Word : Type 0} (zeroWord : Word) (F : Format) (law : Lawful F) where
       outside = λ i h o. rw (drew p) (outside-kept (F .kind) (c .pitch) _ (p .to .ground) (p .to .items) px i h (rw (area-is p) at o));
     }
 
-    pub right : Shown F pitch before kept px → Right zeroWord F pitch kept px c
-    unfolding model
+    -- the model's outcome
+    abbrev o : Outcome (F .kind .Shape)
+    o = patching F kept (c .sheet) (c .pitch) (length px) (length (c .scratch))
+
+    numbered : accepted o ≡ eqb (c .answered .answer .number) 0
+    numbered =
+        number-tells o (patch-numbered F law kept (c .sheet) (c .pitch) (length px) (length (c .scratch)))
+        ∙ ap (λ (a : Answer). eqb (a .number) 0) (sym (did .answers))
+
+    pub right : Shown F pitch before kept px → Right F pitch kept px c o
     right s = record {
+      numbered = numbered;
       same-pitch = λ e. pitch-kept (patch-accepted F kept (c .sheet) (c .pitch) (length px) (length (c .scratch)) e) s;
       answers = did .answers;
       steps = did .steps;
       grounds = did .grounds;
       confined = λ e. confined (patch-accepted F kept (c .sheet) (c .pitch) (length px) (length (c .scratch)) e);
-      unaltered = λ e. did .paints ∙ refused-px (F .kind) (c .pitch) _ px e;
+      unaltered = λ e. (did .paints ∙ refused-px (F .kind) (c .pitch) o px e, did .clears ∙ refused-scratch zeroWord F o (c .scratch) e);
     }
 
-    pub shown-after : Shown F pitch before kept px → Shown F pitch before (keptAfter zeroWord F kept (length px) c) (c .px-left)
-    unfolding keptAfter model
-    shown-after s = go (accepted (patching F kept (c .sheet) (c .pitch) (length px) (length (c .scratch)))) refl
+    -- the sheet that the model keeps is the one that a caller knows to be accepted last
+    pub last-kept : lastOf (c .answered .answer .number) (c .sheet) kept ≡ keptAfter F kept (c .sheet) (c .pitch) (length px) (length (c .scratch))
+    unfolding lastOf keptAfter
+    last-kept = rw numbered
+
+    pub shown-after : Shown F pitch before kept px → Shown F pitch before (keptAfter F kept (c .sheet) (c .pitch) (length px) (length (c .scratch))) (c .px-left)
+    unfolding keptAfter
+    shown-after s = go (accepted o) refl
       where
-        go : (t : Bool) → accepted (patching F kept (c .sheet) (c .pitch) (length px) (length (c .scratch))) ≡ t
-            → Shown F pitch before (cond t (c .sheet) kept) (c .px-left)
+        go : (t : Bool) → accepted o ≡ t → Shown F pitch before (cond t (c .sheet) kept) (c .px-left)
         go true e = shown-new (patch-accepted F kept (c .sheet) (c .pitch) (length px) (length (c .scratch)) e) s
-        go false e = rw (did .paints ∙ refused-px (F .kind) (c .pitch) _ px e) s
+        go false e = rw (did .paints ∙ refused-px (F .kind) (c .pitch) o px e) s
 
   pub always : (pitch : ℕ) (before kept px : List ℕ) (cs : List (Call Word)) → Shown F pitch before kept px → Follow zeroWord F kept px cs
-      → Always zeroWord F pitch before kept px cs
+      → Always F pitch before kept px cs
   unfolding Follow Always
   always pitch before kept px [] s f = s
   always pitch before kept px (c ∷ cs) s f = (
     s,
     right pitch before kept px c (f .0) s,
-    always pitch before (keptAfter zeroWord F kept (length px) c) (c .px-left) cs (shown-after pitch before kept px c (f .0) s) (f .1),
+    always pitch before _ (c .px-left) cs (shown-after pitch before kept px c (f .0) s) (rw (← last-kept pitch before kept px c (f .0)) (f .1)),
   )
 
   -- DEMAND 3
   pub demand-3 : (sheet : List ℕ) (pitch : ℕ) (px : List ℕ) (scratch : List Word) (a : Reply) (px′ : List ℕ) (scratch′ : List Word)
       → Painted zeroWord F sheet pitch px scratch a px′ scratch′
-      → accepted (painting F sheet pitch (length px) (length scratch)) ≡ true
-      → (cs : List (Call Word)) → Follow zeroWord F sheet px′ cs → Always zeroWord F pitch px sheet px′ cs
-  demand-3 sheet pitch px scratch a px′ scratch′ p e cs f = always pitch px sheet px′ cs (shown-first sheet pitch px scratch a px′ scratch′ p e) f
+      → (accepted (painting F sheet pitch (length px) (length scratch)) ≡ eqb (a .answer .number) 0)
+      × (a .answer .number ≡ 0 → (cs : List (Call Word)) → Follow zeroWord F sheet px′ cs → Began F sheet a × Always F pitch px sheet px′ cs)
+  unfolding answer
+  demand-3 sheet pitch px scratch a px′ scratch′ p = (
+    number-tells o (paint-numbered F law sheet pitch (length px) (length scratch)) ∙ ap (λ (b : Answer). eqb (b .number) 0) (sym (p .answers)),
+    λ z cs f.
+        let e = zero-accepted o (paint-numbered F law sheet pitch (length px) (length scratch)) (ap (λ (b : Answer). b .number) (sym (p .answers)) ∙ z) in
+        let q = paint-accepted F sheet pitch (length px) (length scratch) e in
+        (
+          record { held = q .held; reads = q .reads; answers = p .answers ∙ ap answer (q .is) },
+          always pitch px sheet px′ cs (shown-first sheet pitch px scratch a px′ scratch′ p e) f,
+        ),
+  )
+    where
+      o : Outcome (F .kind .Shape)
+      o = painting F sheet pitch (length px) (length scratch)

@@ -5,6 +5,7 @@ use mathlib.Core.Bool.{true, false, cond}
 use mathlib.Core.List.{List, [], _∷_}
 use mathlib.Core.Path.{_≡_}
 use Prim.Native.Nat.{ℕ, _+_, _*_, _/_, _%_, _≤_, _<_}
+use lib.Dec.{eqb}
 use lib.IntN.{pos}
 use lib.ListN.{length, getD}
 use Rattle.redraw.specs.declared.Reply.{Reply}
@@ -34,6 +35,10 @@ pub record Call (Word : Type 0) : Type 0 where
   pub px-left : List ℕ
   pub scratch-left : List Word
 
+-- "the sheet accepted last", as a caller knows it: a call that returned the number 0 was accepted
+unfoldable pub lastOf : (number : ℕ) (new kept : List ℕ) → List ℕ
+lastOf number new kept = cond (eqb number 0) new kept
+
 -- what a refused call returns
 abbrev pub refusedBy : ℕ → ℕ → Reply
 refusedBy n k = record { answer = refusal n k; steps = 0; grounded = 0 }
@@ -54,20 +59,26 @@ module _ {Word : Type 0} (zeroWord : Word) (F : Format) where
   abbrev pub Patched : (old new : List ℕ) (pitch : ℕ) (px : List ℕ) (scratch : List Word) (a : Reply) (px′ : List ℕ) (scratch′ : List Word) → Type 0
   Patched old new pitch px scratch a px′ scratch′ = Does pitch (patching F old new pitch (length px) (length scratch)) px scratch a px′ scratch′
 
-  -- the model's outcome of a call, by the two sheets, the pitch and the lengths of px and scratch; and the sheet that the model keeps after it
-  unfoldable pub model : List ℕ → ℕ → Call Word → Outcome (F .kind .Shape)
-  model kept pxLen c = patching F kept (c .sheet) (c .pitch) pxLen (length (c .scratch))
-
-  unfoldable pub keptAfter : List ℕ → ℕ → Call Word → List ℕ
-  keptAfter kept pxLen c = cond (accepted (model kept pxLen c)) (c .sheet) kept
-
-  -- each call has the kept sheet as its old one, and finds px as the call before left it
+  -- "Each patch finds the pixels as the call before left them and has the sheet accepted last as its old one."
   unfoldable pub Follow : List ℕ → List ℕ → List (Call Word) → Type 0
   Follow kept px [] = Unit {0}
   Follow kept px (c ∷ cs) =
       Patched kept (c .sheet) (c .pitch) px (c .scratch) (c .answered) (c .px-left) (c .scratch-left)
-      × Follow (keptAfter kept (length px) c) (c .px-left) cs
+      × Follow (lastOf (c .answered .answer .number) (c .sheet) kept) (c .px-left) cs
 
+module _ (F : Format) where
+  -- "a model that is fed only each call's arguments, as its sheets, and of px and scratch the lengths alone": its outcomes are `painting` and
+  -- `patching` (specs/Sheet). The sheet that it keeps: "Accepted, it makes its new sheet the kept one; refused, it leaves the kept one."
+  unfoldable pub keptAfter : (kept new : List ℕ) (pitch pxLen scratchLen : ℕ) → List ℕ
+  keptAfter kept new pitch pxLen scratchLen = cond (accepted (patching F kept new pitch pxLen scratchLen)) new kept
+
+  -- "Accepted painting returns 0, 0 and the whole canvas"
+  pub record Began (sheet : List ℕ) (a : Reply) : Type 0 where
+    pub held : Sheet (F .kind .Shape)
+    pub reads : F .reading sheet ≡ read held
+    pub answers : a .answer ≡ record { number = 0; item = 0; area = canvas held }
+
+module _ {Word : Type 0} (F : Format) where
   -- an accepted call: its box is the smallest around the reaches, each cut by its clip and on the canvas, of the shapes that differ, and it
   -- altered no pixel outside that box
   pub record Confined (kept px : List ℕ) (c : Call Word) : Type 0 where
@@ -81,28 +92,35 @@ module _ {Word : Type 0} (zeroWord : Word) (F : Format) where
     pub outside : (i : ℕ) → i < length px → inside (c .answered .answer .area) (pos (i % c .pitch)) (pos (i / c .pitch)) ≡ false
         → getD (c .px-left) i 0 ≡ getD px i 0
 
-  -- what is claimed of one call, where the painting's pitch is `pitch`: "a patch with another pitch is refused"; the model's number, item and
-  -- box, what it altered, and its counts
-  pub record Right (pitch : ℕ) (kept px : List ℕ) (c : Call Word) : Type 0 where
-    pub same-pitch : accepted (model kept (length px) c) ≡ true → c .pitch ≡ pitch
-    pub answers : c .answered .answer ≡ answer (model kept (length px) c)
-    pub steps : c .answered .steps ≡ stepsOf (F .kind) (c .pitch) (model kept (length px) c) px
-    pub grounds : c .answered .grounded ≡ groundsOf (F .kind) (c .pitch) (model kept (length px) c) px
-    pub confined : accepted (model kept (length px) c) ≡ true → Confined kept px c
-    pub unaltered : accepted (model kept (length px) c) ≡ false → c .px-left ≡ px
+  -- what is claimed of one call, where the painting's pitch is `pitch` and the model's outcome is o
+  pub record Right (pitch : ℕ) (kept px : List ℕ) (c : Call Word) (o : Outcome (F .kind .Shape)) : Type 0 where
+    -- a number of 0 is returned exactly where the model accepts
+    pub numbered : accepted o ≡ eqb (c .answered .answer .number) 0
+    -- "a patch with another pitch is refused"
+    pub same-pitch : accepted o ≡ true → c .pitch ≡ pitch
+    -- the model's number, item and box, and its counts
+    pub answers : c .answered .answer ≡ answer o
+    pub steps : c .answered .steps ≡ stepsOf (F .kind) (c .pitch) o px
+    pub grounds : c .answered .grounded ≡ groundsOf (F .kind) (c .pitch) o px
+    -- "An accepted patch alters no pixel outside that box"; a refused one alters none, and no word of scratch
+    pub confined : accepted o ≡ true → Confined kept px c
+    pub unaltered : accepted o ≡ false → (c .px-left ≡ px) × (c .scratch-left ≡ c .scratch)
 
   -- at the start and after each call px shows the kept sheet in rows of `pitch` words, with the words past the canvas as they were before, and
   -- each call is right
   unfoldable pub Always : ℕ → List ℕ → List ℕ → List ℕ → List (Call Word) → Type 0
   Always pitch before kept px [] = Shown F pitch before kept px
   Always pitch before kept px (c ∷ cs) =
-      Shown F pitch before kept px × Right pitch kept px c × Always pitch before (keptAfter kept (length px) c) (c .px-left) cs
+      Shown F pitch before kept px
+      × Right pitch kept px c (patching F kept (c .sheet) (c .pitch) (length px) (length (c .scratch)))
+      × Always pitch before (keptAfter F kept (c .sheet) (c .pitch) (length px) (length (c .scratch))) (c .px-left) cs
 
+module _ {Word : Type 0} (zeroWord : Word) (F : Format) where
   -- What the counts tell. Those of an accepted painting's shapes hang on its sheet alone, whatever px held and whatever its pitch; and a call
   -- whose two counts are 0 left px as it was.
   pub record Busy : Type 0 where
     pub fresh : (s : Sheet (F .kind .Shape)) (sheet : List ℕ) (pitch : ℕ) (px : List ℕ) (scratch : List Word) (a : Reply) (px′ : List ℕ) (scratch′ : List Word)
-        → Painted sheet pitch px scratch a px′ scratch′ → F .reading sheet ≡ read s → accepted (painting F sheet pitch (length px) (length scratch)) ≡ true
+        → Painted zeroWord F sheet pitch px scratch a px′ scratch′ → F .reading sheet ≡ read s → accepted (painting F sheet pitch (length px) (length scratch)) ≡ true
         → a .steps ≡ freshSteps (F .kind) s
     pub quiet : (pitch : ℕ) (o : Outcome (F .kind .Shape)) (px : List ℕ) (scratch : List Word) (a : Reply) (px′ : List ℕ) (scratch′ : List Word)
-        → Does pitch o px scratch a px′ scratch′ → a .steps ≡ 0 → a .grounded ≡ 0 → px′ ≡ px
+        → Does zeroWord F pitch o px scratch a px′ scratch′ → a .steps ≡ 0 → a .grounded ≡ 0 → px′ ≡ px

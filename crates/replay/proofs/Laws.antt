@@ -1,190 +1,213 @@
--- From the contract of `patch` to that of `advance`, by the laws of redraw. Assumes nothing.
-use mathlib.Core.Bool.{true, false}
+-- From the contracts of `paint` and `patch` to the fold that `replay` is, and what px shows along it. Assumes nothing.
+use mathlib.Core.Bool.{Bool, true, false, cond}
 use mathlib.Core.List.{List, [], _∷_}
 use mathlib.Core.Path.{_≡_, refl, sym, ap, _∙_}
-use Prim.Native.Nat.{ℕ, _+_, _-_, _≤_, _<_}
+use Prim.Native.Nat.{ℕ, _+_, _-_, _≤_, _<_, min}
 use native.Mathlib.Omega.{arith}
-use lib.Ieee.{Float}
-use lib.ListN.{length, getD, take, drop, length-drop, drop-of-length-le}
-use lib.Seq.{drop-cons, drop-drop}
-use lib.Dec.{leb}
 use native.Mathlib.Nat.{sub-zero}
 use native.Mathlib.Numerals.{add-one}
-use borrow.Author.Tests.{le-leb, lt-leb}
+use lib.Ieee.{Float}
+use lib.ListN.{length, getD, take, drop, length-drop, drop-of-length-le}
+use lib.Seq.{drop-cons, drop-drop, take-all}
+use lib.Dec.{leb}
+use borrow.Author.Tests.{leb-true, leb-false}
+use Rattle.geom.proofs.Bools.{split}
 use Rattle.redraw.specs.declared.Answer.{Answer}
 use Rattle.redraw.specs.declared.Reply.{Reply}
-use Rattle.redraw.specs.Sheet.{painting, patching, answer, accepted}
-use Rattle.redraw.specs.Calls.{Shown, Call, Painted, Patched, keptAfter, model}
-use Rattle.redraw.proofs.Lists.{shown-after, shown-first, patch-numbered, zero-accepted, other-refused, accepted-zero, length-pixels, length-cleared, patch-enough, paint-enough}
-use Rattle.replay.specs.declared.Replayed.{Replayed}
+use Rattle.redraw.specs.Counts.{stepsOf, groundsOf}
+use Rattle.redraw.specs.Sheet.{Outcome, painting, patching, answer, pixels, cleared, accepted}
+use Rattle.redraw.specs.Calls.{Shown, Call, Does, Painted, Patched, keptAfter}
+use Rattle.redraw.proofs.Lists.{Numbered, zero-accepted, other-refused, patch-numbered, paint-numbered, shown-first, shown-after}
 use Rattle.items.specs.Format.{kind, format, zeroWord}
 use Rattle.items.proofs.Lawful.{lawful}
-use Rattle.replay.specs.Ran.{part, cut, next, keptOver, lastOver, Advanced, Runs, Replays}
+use Rattle.replay.specs.declared.Replayed.{Replayed}
+use Rattle.replay.specs.Ran.{part, cut, Stand, stands, begun, next, run, replayed, Shows, standing, Ran}
 
-module _ (sheets : List ℕ) (from to at end pitch : ℕ) (px : List ℕ) (scratch : List Float) (a : Reply) (px′ : List ℕ) (scratch′ : List Float)
-    (did : Patched zeroWord format (part from to sheets) (part at end sheets) pitch px scratch a px′ scratch′) where
-  abbrev old : List ℕ
-  old = part from to sheets
+-- ---- a sheet of n bytes that begins at a place, or what there is of it
 
-  abbrev new : List ℕ
-  new = part at end sheets
+module _ (sheets : List ℕ) (at n : ℕ) (h : at ≤ length sheets) where
+  abbrev end : ℕ
+  end = at + min n (length sheets - at)
 
-  call : Call Float
-  call = record { pitch = pitch; sheet = new; scratch = scratch; answered = a; px-left = px′; scratch-left = scratch′ }
+  pub there : part at end sheets ≡ take n (drop at sheets)
+  there = split (leb n (length sheets - at)) (λ t. part at end sheets ≡ take n (drop at sheets)) whole short
+    where
+      whole : leb n (length sheets - at) ≡ true → part at end sheets ≡ take n (drop at sheets)
+      whole e =
+          let k = leb-true n (length sheets - at) e in
+          let p : end - at ≡ n = omega arith in
+          rw p
 
-  after : (before : List ℕ) → Shown format pitch before old px → Shown format pitch before (next format pitch (length px) (length scratch) old new) px′
-  unfolding call next keptAfter model
-  after before s = shown-after zeroWord format lawful pitch before old px call did s
+      short : leb n (length sheets - at) ≡ false → part at end sheets ≡ take n (drop at sheets)
+      short e =
+          let k = leb-false n (length sheets - at) e in
+          let m = length-drop at sheets in
+          take-all (end - at) (drop at sheets) (omega arith) ∙ sym (take-all n (drop at sheets) (omega arith))
 
-  px-long : length px′ ≡ length px
-  px-long = ap length (did .paints) ∙ length-pixels kind pitch _ px
+  pub beyond : drop end sheets ≡ drop n (drop at sheets)
+  beyond = split (leb n (length sheets - at)) (λ t. drop end sheets ≡ drop n (drop at sheets)) whole short
+    where
+      whole : leb n (length sheets - at) ≡ true → drop end sheets ≡ drop n (drop at sheets)
+      whole e =
+          let k = leb-true n (length sheets - at) e in
+          let p : end ≡ at + n = omega arith in
+          rw (p, drop-drop)
 
-  scratch-long : length scratch′ ≡ length scratch
-  scratch-long =
-      ap length (did .clears) ∙ length-cleared zeroWord format _ scratch (patch-enough zeroWord format old new pitch (length px) (length scratch))
+      short : leb n (length sheets - at) ≡ false → drop end sheets ≡ drop n (drop at sheets)
+      short e =
+          let k = leb-false n (length sheets - at) e in
+          let m = length-drop at sheets in
+          drop-of-length-le sheets (omega arith) ∙ sym (drop-of-length-le (drop at sheets) (omega arith))
 
-  next-new : a .answer .number ≡ 0 → new ≡ next format pitch (length px) (length scratch) old new
-  unfolding next
-  next-new z =
-      let e = zero-accepted (patching format old new pitch (length px) (length scratch)) (patch-numbered format lawful old new pitch (length px) (length scratch)) (ap (λ (b : Answer). b .number) (sym (did .answers)) ∙ z) in
-      rw e
+-- ---- a call that meets its contract stands as the fold says
 
-  next-old : (a .answer .number ≡ 0 → ⊥) → old ≡ next format pitch (length px) (length scratch) old new
-  unfolding next
-  next-old z =
-      let e = other-refused (patching format old new pitch (length px) (length scratch)) (λ q. z (ap (λ (b : Answer). b .number) (did .answers) ∙ q)) in
-      rw e
+module _ (sheets : List ℕ) (pitch : ℕ) (px : List ℕ) (scratch : List Float) (px′ : List ℕ) (scratch′ : List Float)
+    (o : Outcome (kind .Shape)) (sheet kept : List ℕ) (from to : ℕ) (a : Reply)
+    (did : Does zeroWord format pitch o px scratch a px′ scratch′) where
+  abbrev r : Replayed
+  r = record { reply = a; from = from; to = to }
 
-  pub advanced-new : at ≤ end → end ≤ length sheets → a .answer .number ≡ 0
-      → Advanced format sheets from to at end pitch px scratch (record { answer = a .answer; from = at; to = end }) px′ scratch′
+  stand-is : part from to sheets ≡ cond (accepted o) sheet kept
+      → standing sheets r px′ scratch′ ≡ stands zeroWord format pitch o sheet kept px scratch
+  unfolding standing stands
+  stand-is e = rw (e, did .answers, did .steps, did .grounds, did .paints, did .clears)
+
+  -- by the number returned: the sheet of an accepted call is kept, after a refused one the sheet of before
+  pub stands-new : Numbered o → a .answer .number ≡ 0 → part from to sheets ≡ sheet
+      → standing sheets r px′ scratch′ ≡ stands zeroWord format pitch o sheet kept px scratch
+  stands-new n z e =
+      let yes = zero-accepted o n (ap (λ (b : Answer). b .number) (sym (did .answers)) ∙ z) in
+      stand-is (e ∙ rw yes)
+
+  pub stands-old : (a .answer .number ≡ 0 → ⊥) → part from to sheets ≡ kept
+      → standing sheets r px′ scratch′ ≡ stands zeroWord format pitch o sheet kept px scratch
+  stands-old z e =
+      let no = other-refused o (λ q. z (ap (λ (b : Answer). b .number) (did .answers) ∙ q)) in
+      stand-is (e ∙ rw no)
+
+-- ---- `advance`
+
+module _ (sheets : List ℕ) (kept : Replayed) (at end pitch : ℕ) (px : List ℕ) (scratch : List Float) (a : Reply) (px′ : List ℕ) (scratch′ : List Float)
+    (did : Patched zeroWord format (part (kept .from) (kept .to) sheets) (part at end sheets) pitch px scratch a px′ scratch′) where
+  abbrev said : Stand Float
+  said = next zeroWord format pitch (standing sheets kept px scratch) (part at end sheets)
+
+  pub advanced-new : at ≤ end → end ≤ length sheets → a .answer .number ≡ 0 → Ran sheets said (record { reply = a; from = at; to = end }) px′ scratch′
+  unfolding next standing
   advanced-new h k z = record {
-    start = h;
-    stop = k;
-    keeps = next-new z;
-    answers = did .answers;
-    px-long = px-long;
-    scratch-long = scratch-long;
-    shows = λ before s. rw (next-new z) (after before s);
+    ordered = h;
+    within = k;
+    is = stands-new sheets pitch px scratch px′ scratch′ _ (part at end sheets) (part (kept .from) (kept .to) sheets) at end a did
+        (patch-numbered format lawful (part (kept .from) (kept .to) sheets) (part at end sheets) pitch (length px) (length scratch)) z refl;
   }
 
-  pub advanced-old : from ≤ to → to ≤ length sheets → (a .answer .number ≡ 0 → ⊥)
-      → Advanced format sheets from to at end pitch px scratch (record { answer = a .answer; from = from; to = to }) px′ scratch′
+  pub advanced-old : kept .from ≤ kept .to → kept .to ≤ length sheets → (a .answer .number ≡ 0 → ⊥)
+      → Ran sheets said (record { reply = a; from = kept .from; to = kept .to }) px′ scratch′
+  unfolding next standing
   advanced-old h k z = record {
-    start = h;
-    stop = k;
-    keeps = next-old z;
-    answers = did .answers;
-    px-long = px-long;
-    scratch-long = scratch-long;
-    shows = λ before s. rw (next-old z) (after before s);
+    ordered = h;
+    within = k;
+    is = stands-old sheets pitch px scratch px′ scratch′ _ (part at end sheets) (part (kept .from) (kept .to) sheets) (kept .from) (kept .to) a did z refl;
   }
 
 -- ---- the loop of `patches`
 
-pub cut-next : (lens sheets : List ℕ) (k at : ℕ) → k < length lens → getD lens k 0 ≤ length sheets - at
-    → cut (drop k lens) (drop at sheets)
-    ≡ part at (at + getD lens k 0) sheets ∷ cut (drop (k + 1) lens) (drop (at + getD lens k 0) sheets)
-unfolding cut
-cut-next lens sheets k at h e =
-    let n = getD lens k 0 in
-    let t : leb n (length (drop at sheets)) ≡ true = le-leb n _ (simp length-drop (omega arith)) in
-    let p : at + n - at ≡ n = omega arith in
-    rw (drop-cons lens k 0 h, cut, t, p, drop-drop, add-one)
+module _ (sheets lens : List ℕ) (s₀ : Replayed) (at₀ pitch : ℕ) (px₀ : List ℕ) (scratch₀ : List Float) where
+  abbrev all : Stand Float
+  all = run zeroWord format pitch (standing sheets s₀ px₀ scratch₀) (cut lens (drop at₀ sheets))
 
-pub cut-short : (lens sheets : List ℕ) (k at : ℕ) → k < length lens → length sheets - at < getD lens k 0
-    → cut (drop k lens) (drop at sheets) ≡ []
-unfolding cut
-cut-short lens sheets k at h e =
-    let n = getD lens k 0 in
-    let t : leb n (length (drop at sheets)) ≡ false = lt-leb n _ (simp length-drop (omega arith)) in
-    rw (drop-cons lens k 0 h, cut, t)
-
-pub cut-done : (lens sheets : List ℕ) (k at : ℕ) → length lens ≤ k → cut (drop k lens) (drop at sheets) ≡ []
-unfolding cut
-cut-done lens sheets k at h = rw (drop-of-length-le lens h)
-
-module _ (sheets lens : List ℕ) (s₀ : Replayed) (at₀ pitch : ℕ) (px₀ : List ℕ) (n₀ : ℕ) where
   -- what is left to do, done from here, gives what doing all gives from the start
-  pub record Running (s : Replayed) (at k : ℕ) (px : List ℕ) (n : ℕ) : Type 0 where
+  pub record Running (s : Replayed) (at k : ℕ) (px : List ℕ) (scratch : List Float) : Type 0 where
     pub k-in : k ≤ length lens
     pub at-in : at ≤ length sheets
     pub ordered : s .from ≤ s .to
     pub within : s .to ≤ length sheets
-    pub px-long : length px ≡ length px₀
-    pub scratch-long : n ≡ n₀
-    pub keeps : keptOver format pitch (length px₀) n₀ (part (s .from) (s .to) sheets) (cut (drop k lens) (drop at sheets))
-        ≡ keptOver format pitch (length px₀) n₀ (part (s₀ .from) (s₀ .to) sheets) (cut lens (drop at₀ sheets))
-    pub answers : lastOver format pitch (length px₀) n₀ (part (s .from) (s .to) sheets) (s .answer) (cut (drop k lens) (drop at sheets))
-        ≡ lastOver format pitch (length px₀) n₀ (part (s₀ .from) (s₀ .to) sheets) (s₀ .answer) (cut lens (drop at₀ sheets))
-    pub shows : (before : List ℕ) → Shown format pitch before (part (s₀ .from) (s₀ .to) sheets) px₀ → Shown format pitch before (part (s .from) (s .to) sheets) px
+    pub is : run zeroWord format pitch (standing sheets s px scratch) (cut (drop k lens) (drop at sheets)) ≡ all
 
-  pub running-first : s₀ .from ≤ s₀ .to → s₀ .to ≤ length sheets → at₀ ≤ length sheets → Running s₀ at₀ 0 px₀ n₀
-  running-first h k a = record {
-    k-in = omega arith;
-    at-in = a;
-    ordered = h;
-    within = k;
-    px-long = refl;
-    scratch-long = refl;
-    keeps = refl;
-    answers = refl;
-    shows = λ before s. s;
-  }
+  pub running-first : s₀ .from ≤ s₀ .to → s₀ .to ≤ length sheets → at₀ ≤ length sheets → Running s₀ at₀ 0 px₀ scratch₀
+  running-first h k a = record { k-in = omega arith; at-in = a; ordered = h; within = k; is = refl }
 
-  pub runs-end : (s : Replayed) (at k : ℕ) (px : List ℕ) (n : ℕ) → Running s at k px n → cut (drop k lens) (drop at sheets) ≡ []
-      → Runs format sheets at₀ lens s₀ pitch px₀ n₀ s px
-  unfolding keptOver lastOver
-  runs-end s at k px n i e = record {
-    keeps = rw e at (i .keeps);
-    answers = rw e at (i .answers);
-    shows = i .shows;
+  pub running-done : (s : Replayed) (at k : ℕ) (px : List ℕ) (scratch : List Float) → Running s at k px scratch → length lens ≤ k
+      → Ran sheets all s px scratch
+  unfolding run cut
+  running-done s at k px scratch i h = record {
+    ordered = i .ordered;
+    within = i .within;
+    is = rw (drop-of-length-le lens h) at (i .is);
   }
 
   pub running-next : (s : Replayed) (at k : ℕ) (px : List ℕ) (scratch : List Float) (r : Replayed) (px′ : List ℕ) (scratch′ : List Float)
-      → Running s at k px (length scratch) → k < length lens → getD lens k 0 ≤ length sheets - at
-      → Advanced format sheets (s .from) (s .to) at (at + getD lens k 0) pitch px scratch r px′ scratch′
-      → Running r (at + getD lens k 0) (k + 1) px′ (length scratch′)
-  unfolding keptOver lastOver
-  running-next s at k px scratch r px′ scratch′ i h e a =
-      let c = cut-next lens sheets k at h e in
-      let p : part (r .from) (r .to) sheets
-      ≡ next format pitch (length px₀) n₀ (part (s .from) (s .to) sheets) (part at (at + getD lens k 0) sheets) =
-      rw (← i .px-long, ← i .scratch-long) (a .keeps) in
-      let q : r .answer
-      ≡ answer (patching format (part (s .from) (s .to) sheets) (part at (at + getD lens k 0) sheets) pitch (length px₀) n₀) =
-      rw (← i .px-long, ← i .scratch-long) (a .answers) in
+      → Running s at k px scratch → k < length lens
+      → Ran sheets (next zeroWord format pitch (standing sheets s px scratch) (part at (end sheets at (getD lens k 0)) sheets)) r px′ scratch′
+      → Running r (end sheets at (getD lens k 0)) (k + 1) px′ scratch′
+  unfolding run cut
+  running-next s at k px scratch r px′ scratch′ i h a =
+      let n = getD lens k 0 in
+      let c : cut (drop k lens) (drop at sheets) ≡ take n (drop at sheets) ∷ cut (drop (k + 1) lens) (drop n (drop at sheets)) =
+      rw (drop-cons lens k 0 h, cut, add-one) in
       record {
         k-in = omega arith;
         at-in = omega (arith, i .at-in);
-        ordered = a .start;
-        within = a .stop;
-        px-long = a .px-long ∙ i .px-long;
-        scratch-long = a .scratch-long ∙ i .scratch-long;
-        keeps = rw p (rw c at (i .keeps));
-        answers = rw (p, q) (rw c at (i .answers));
-        shows = λ before t. a .shows before (i .shows before t);
+        ordered = a .ordered;
+        within = a .within;
+        is = rw (a .is, there sheets at n (i .at-in), beyond sheets at n (i .at-in)) (rw c at (i .is));
       }
 
--- ---- `replay`: an accepted painting, and then the loop
+-- ---- `replay`: a painting, and where it is accepted the loop
 
 module _ (sheets : List ℕ) (first : ℕ) (lens : List ℕ) (pitch : ℕ) (px : List ℕ) (scratch : List Float) (a : Reply) (px₁ : List ℕ) (scratch₁ : List Float)
-    (did : Painted zeroWord format (take first sheets) pitch px scratch a px₁ scratch₁)
-    (yes : accepted (painting format (take first sheets) pitch (length px) (length scratch)) ≡ true) where
-  pub painted-zero : a .answer .number ≡ 0
-  painted-zero = ap (λ (b : Answer). b .number) (did .answers) ∙ accepted-zero _ yes
+    (did : Painted zeroWord format (take first sheets) pitch px scratch a px₁ scratch₁) where
+  abbrev o : Outcome (kind .Shape)
+  o = painting format (take first sheets) pitch (length px) (length scratch)
 
-  whole : part 0 first sheets ≡ take first sheets
-  whole = rw sub-zero
+  abbrev asked : Stand Float
+  asked = replayed zeroWord format pitch (take first sheets) (cut lens (drop first sheets)) px scratch
 
-  pub replays : (r : Replayed) (px₂ : List ℕ)
-      → Runs format sheets first lens (record { answer = a .answer; from = 0; to = first }) pitch px₁ (length scratch₁) r px₂
-      → Replays format sheets first lens pitch px (length scratch) r px₂
-  replays r px₂ runs =
-      let n : length px₁ ≡ length px = ap length (did .paints) ∙ length-pixels kind pitch _ px in
-      let m : length scratch₁ ≡ length scratch =
-      ap length (did .clears) ∙ length-cleared zeroWord format _ scratch (paint-enough zeroWord format (take first sheets) pitch (length px) (length scratch)) in
+  numbered : Numbered o
+  numbered = paint-numbered format lawful (take first sheets) pitch (length px) (length scratch)
+
+  pub replayed-refused : (a .answer .number ≡ 0 → ⊥) → Ran sheets asked (record { reply = a; from = 0; to = 0 }) px₁ scratch₁
+  unfolding replayed begun
+  replayed-refused z =
+      let no = other-refused o (λ q. z (ap (λ (b : Answer). b .number) (did .answers) ∙ q)) in
       record {
-        keeps = rw (n, m, whole) at (runs .keeps);
-        answers = rw (n, m, whole, did .answers) at (runs .answers);
-        shows = runs .shows px (rw whole (shown-first zeroWord format lawful (take first sheets) pitch px scratch a px₁ scratch₁ did yes));
+        ordered = omega arith;
+        within = omega arith;
+        is = stands-old sheets pitch px scratch px₁ scratch₁ o (take first sheets) [] 0 0 a did z refl ∙ rw no;
       }
+
+  pub replayed-run : a .answer .number ≡ 0 → (to : ℕ) → part 0 to sheets ≡ take first sheets → drop to sheets ≡ drop first sheets
+      → (r : Replayed) (px₂ : List ℕ) (scratch₂ : List Float)
+      → Ran sheets (run zeroWord format pitch (standing sheets (record { reply = a; from = 0; to = to }) px₁ scratch₁) (cut lens (drop to sheets))) r px₂ scratch₂
+      → Ran sheets asked r px₂ scratch₂
+  unfolding replayed begun
+  replayed-run z to p d r px₂ scratch₂ ran =
+      let yes = zero-accepted o numbered (ap (λ (b : Answer). b .number) (sym (did .answers)) ∙ z) in
+      let s = stands-new sheets pitch px scratch px₁ scratch₁ o (take first sheets) [] 0 to a did numbered z p in
+      record { ordered = ran .ordered; within = ran .within; is = rw (s, d) at (ran .is) ∙ rw yes }
+
+-- ---- px along the fold
+
+module _ (pitch : ℕ) (before : List ℕ) where
+  next-shows : (s : Stand Float) (sheet : List ℕ) → Shown format pitch before (s .kept) (s .px)
+      → Shown format pitch before (next zeroWord format pitch s sheet .kept) (next zeroWord format pitch s sheet .px)
+  unfolding next stands keptAfter
+  next-shows s sheet h =
+      let t = next zeroWord format pitch s sheet in
+      let c : Call Float = record { pitch = pitch; sheet = sheet; scratch = s .scratch; answered = t .reply; px-left = t .px; scratch-left = t .scratch } in
+      shown-after zeroWord format lawful pitch before (s .kept) (s .px) c
+      (record { answers = refl; steps = refl; grounds = refl; paints = refl; clears = refl }) h
+
+  run-shows : (s : Stand Float) (others : List (List ℕ)) → Shown format pitch before (s .kept) (s .px)
+      → Shown format pitch before (run zeroWord format pitch s others .kept) (run zeroWord format pitch s others .px)
+  unfolding run
+  run-shows s [] h = h
+  run-shows s (b ∷ bs) h = run-shows (next zeroWord format pitch s b) bs (next-shows s b h)
+
+pub shows : (pitch : ℕ) → Shows zeroWord format pitch
+unfolding replayed begun stands
+shows pitch first others px scratch yes =
+    let s = begun zeroWord format pitch first px scratch in
+    let d : Painted zeroWord format first pitch px scratch (s .reply) (s .px) (s .scratch) =
+    record { answers = refl; steps = refl; grounds = refl; paints = refl; clears = refl } in
+    rw yes (run-shows pitch px s others (rw yes (shown-first zeroWord format lawful first pitch px scratch (s .reply) (s .px) (s .scratch) d yes)))

@@ -1,21 +1,29 @@
 // A painting and a list of patches, run on lent memory: demand 3 as the contract of a function.
 use paint::paint;
-use paint::refusal;
 use patch::patch;
-use redraw::Answer;
-ghost use mathlib.Core.Bool.{true};
+use redraw::Reply;
 ghost use mathlib.Core.Path.{_≡_};
-ghost use Prim.Native.Nat.{_≤_};
-ghost use lib.ListN.{length, take};
-ghost use Rattle.items.specs.Format.{format};
-ghost use Rattle.redraw.specs.Sheet.{painting, accepted};
-ghost use Rattle.replay.specs.Ran.{Advanced, Runs, Replays};
+ghost use Prim.Native.Nat.{_+_, _-_, _≤_, min};
+ghost use lib.ListN.{length, take, drop};
+ghost use Rattle.items.specs.Format.{format, zeroWord};
+ghost use Rattle.replay.specs.Ran.{part, cut, next, run, replayed, standing, Ran};
 
-// The last answer, and where the kept sheet lies.
+// What the last call returned, and where the sheet accepted last lies; after a refused painting there is none, and both bounds are 0.
 pub struct Replayed {
-    pub answer: Answer,
+    pub reply: Reply,
     pub from: usize,
     pub to: usize,
+}
+
+// Where a sheet of n bytes that begins at a place ends: where the bytes end, if there are fewer.
+fn end_of(sheets: &[u8], at: usize, n: usize) -> usize
+    requires { ⌜ at ≤ length (now sheets) ⌝ }
+    ensures { λ r. ⌜ r ≡ at + min n (length (now (sheets .entry)) - at) ⌝ }
+{
+    if sheets.len() - at < n {
+        return sheets.len();
+    }
+    at + n
 }
 
 // A patch from the kept sheet to sheets[at..end].
@@ -29,27 +37,23 @@ fn advance(
     scratch: &mut [f32],
 ) -> Replayed
     requires { ⌜ (kept .from ≤ kept .to) × (kept .to ≤ length (now sheets)) × (at ≤ end) × (end ≤ length (now sheets)) ⌝ }
-    ensures { λ r. ⌜ Advanced format (now (sheets .entry)) (kept .from) (kept .to) at end pitch (now (px .entry)) (now (scratch .entry)) r (now (px .exit)) (now (scratch .exit)) ⌝ }
+    ensures { λ r. ⌜ Ran (now (sheets .entry)) (next zeroWord format pitch (standing (now (sheets .entry)) kept (now (px .entry)) (now (scratch .entry))) (part at end (now (sheets .entry)))) r (now (px .exit)) (now (scratch .exit)) ⌝ }
 {
     let from = kept.from;
     let to = kept.to;
-    let a = patch(&sheets[from..to], &sheets[at..end], pitch, px, scratch).answer;
-    let n = a.number;
+    let reply = patch(&sheets[from..to], &sheets[at..end], pitch, px, scratch);
+    let n = reply.answer.number;
     if n == 0 {
         return Replayed {
-            answer: a,
+            reply,
             from: at,
             to: end,
         };
     }
-    Replayed {
-        answer: a,
-        from,
-        to,
-    }
+    Replayed { reply, from, to }
 }
 
-// A patch to each of the sheets that begin at `start`, by their lengths, up to one that runs past the end.
+// A patch to each of the sheets that begin at `start`, by their lengths.
 fn patches(
     sheets: &[u8],
     start: usize,
@@ -60,17 +64,13 @@ fn patches(
     scratch: &mut [f32],
 ) -> Replayed
     requires { ⌜ (state .from ≤ state .to) × (state .to ≤ length (now sheets)) × (start ≤ length (now sheets)) ⌝ }
-    ensures { λ r. ⌜ Runs format (now (sheets .entry)) start (now (lens .entry)) state pitch (now (px .entry)) (length (now (scratch .entry))) r (now (px .exit)) ⌝ }
+    ensures { λ r. ⌜ Ran (now (sheets .entry)) (run zeroWord format pitch (standing (now (sheets .entry)) state (now (px .entry)) (now (scratch .entry))) (cut (now (lens .entry)) (drop start (now (sheets .entry))))) r (now (px .exit)) (now (scratch .exit)) ⌝ }
 {
     let mut s = state;
     let mut at = start;
     let mut k = 0;
     while k < lens.len() {
-        let n = lens[k];
-        if sheets.len() - at < n {
-            return s;
-        }
-        let end = at + n;
+        let end = end_of(sheets, at, lens[k]);
         s = advance(sheets, s, at, end, pitch, px, scratch);
         at = end;
         k += 1;
@@ -78,9 +78,9 @@ fn patches(
     s
 }
 
-// Paints sheets[..first], and patches to each of the sheets that follow it, by their lengths, each from the sheet accepted last, all in rows of
-// `pitch` words. Where the painting is accepted, px then shows the fresh painting of the kept sheet, which with the last answer is the model's, and
-// the words past the canvas are as they came.
+// Paints the first sheet, sheets[..first], and where that is accepted patches to each of the sheets that follow it, by their lengths, each from the
+// sheet accepted last, all in rows of `pitch` words. Of a sheet that runs past the bytes, the first included, what there is of it is painted or
+// patched to. What the calls before the last returned, a shorter list tells.
 pub fn replay(
     sheets: &[u8],
     first: usize,
@@ -89,27 +89,22 @@ pub fn replay(
     px: &mut [u32],
     scratch: &mut [f32],
 ) -> Replayed
-    ensures { λ r. ⌜ (first ≤ length (now (sheets .entry))
-        → accepted (painting format (take first (now (sheets .entry))) pitch (length (now (px .entry))) (length (now (scratch .entry)))) ≡ true
-        → Replays format (now (sheets .entry)) first (now (lens .entry)) pitch (now (px .entry)) (length (now (scratch .entry))) r (now (px .exit))) ⌝ }
+    ensures { λ r. ⌜ Ran (now (sheets .entry)) (replayed zeroWord format pitch (take first (now (sheets .entry))) (cut (now (lens .entry)) (drop first (now (sheets .entry)))) (now (px .entry)) (now (scratch .entry))) r (now (px .exit)) (now (scratch .exit)) ⌝ }
 {
-    if sheets.len() < first {
-        let none = refusal(1, 0).answer;
+    let end = end_of(sheets, 0, first);
+    let reply = paint(&sheets[..end], pitch, px, scratch);
+    let n = reply.answer.number;
+    if n != 0 {
         return Replayed {
-            answer: none,
+            reply,
             from: 0,
             to: 0,
         };
     }
-    let a = paint(&sheets[..first], pitch, px, scratch).answer;
-    let n = a.number;
     let state = Replayed {
-        answer: a,
+        reply,
         from: 0,
-        to: first,
+        to: end,
     };
-    if n != 0 {
-        return state;
-    }
-    patches(sheets, first, lens, state, pitch, px, scratch)
+    patches(sheets, end, lens, state, pitch, px, scratch)
 }
