@@ -480,8 +480,7 @@ module _ {Word : Type 0} (zeroWord : Word) (F : Format) (law : Lawful F) where
     number-tells o (paint-numbered F law sheet pitch (length px) (length scratch)) ∙ ap (λ (b : Answer). eqb (b .number) 0) (sym (p .answers)),
     λ z cs f.
         let e = zero-accepted o (paint-numbered F law sheet pitch (length px) (length scratch)) (ap (λ (b : Answer). b .number) (sym (p .answers)) ∙ z) in
-        let q = paint-accepted F sheet pitch (length px) (length scratch) e in
-        (
+        let q = paint-accepted F sheet pitch (length px) (length scratch) e in (
           record { held = q .held; reads = q .reads; answers = p .answers ∙ ap answer (q .is) },
           always pitch px sheet px′ cs (shown-first sheet pitch px scratch a px′ scratch′ p e) f,
         ),

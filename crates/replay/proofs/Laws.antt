@@ -1,5 +1,5 @@
 -- From the contracts of `paint` and `patch` to the fold that `replay` is, and what px shows along it. Assumes nothing.
-use mathlib.Core.Bool.{Bool, true, false, cond}
+use mathlib.Core.Bool.{true, false, cond}
 use mathlib.Core.List.{List, [], _∷_}
 use mathlib.Core.Path.{_≡_, refl, sym, ap, _∙_}
 use Prim.Native.Nat.{ℕ, _+_, _-_, _≤_, _<_, min}
@@ -14,10 +14,9 @@ use borrow.Author.Tests.{leb-true, leb-false}
 use Rattle.geom.proofs.Bools.{split}
 use Rattle.redraw.specs.declared.Answer.{Answer}
 use Rattle.redraw.specs.declared.Reply.{Reply}
-use Rattle.redraw.specs.Counts.{stepsOf, groundsOf}
-use Rattle.redraw.specs.Sheet.{Outcome, painting, patching, answer, pixels, cleared, accepted}
+use Rattle.redraw.specs.Sheet.{Outcome, painting, answer, accepted}
 use Rattle.redraw.specs.Calls.{Shown, Call, Does, Painted, Patched, keptAfter}
-use Rattle.redraw.proofs.Lists.{Numbered, zero-accepted, other-refused, patch-numbered, paint-numbered, shown-first, shown-after}
+use Rattle.redraw.proofs.Lists.{Numbered, zero-accepted, other-refused, patch-numbered, paint-numbered, length-pixels, length-cleared, patch-enough, shown-first, shown-after}
 use Rattle.items.specs.Format.{kind, format, zeroWord}
 use Rattle.items.proofs.Lawful.{lawful}
 use Rattle.replay.specs.declared.Replayed.{Replayed}
@@ -25,39 +24,36 @@ use Rattle.replay.specs.Ran.{part, cut, Stand, stands, begun, next, run,
 
 -- ---- a sheet of n bytes that begins at a place, or what there is of it
 
-module _ (sheets : List ℕ) (at n : ℕ) (h : at ≤ length sheets) where
-  abbrev end : ℕ
-  end = at + min n (length sheets - at)
-
+module _ (sheets : List ℕ) (at n end : ℕ) (e : end ≡ at + min n (length sheets - at)) (h : at ≤ length sheets) where
   pub there : part at end sheets ≡ take n (drop at sheets)
   there = split (leb n (length sheets - at)) (λ t. part at end sheets ≡ take n (drop at sheets)) whole short
     where
       whole : leb n (length sheets - at) ≡ true → part at end sheets ≡ take n (drop at sheets)
-      whole e =
-          let k = leb-true n (length sheets - at) e in
+      whole t =
+          let k = leb-true n (length sheets - at) t in
           let p : end - at ≡ n = omega arith in
           rw p
 
       short : leb n (length sheets - at) ≡ false → part at end sheets ≡ take n (drop at sheets)
-      short e =
-          let k = leb-false n (length sheets - at) e in
-          let m = length-drop at sheets in
-          take-all (end - at) (drop at sheets) (omega arith) ∙ sym (take-all n (drop at sheets) (omega arith))
+      short t =
+          let k = leb-false n (length sheets - at) t in
+          take-all (end - at) (drop at sheets) (simp length-drop (omega arith)) ∙ sym (take-all n (drop at sheets) (simp length-drop (omega arith)))
 
   pub beyond : drop end sheets ≡ drop n (drop at sheets)
   beyond = split (leb n (length sheets - at)) (λ t. drop end sheets ≡ drop n (drop at sheets)) whole short
     where
       whole : leb n (length sheets - at) ≡ true → drop end sheets ≡ drop n (drop at sheets)
-      whole e =
-          let k = leb-true n (length sheets - at) e in
+      whole t =
+          let k = leb-true n (length sheets - at) t in
           let p : end ≡ at + n = omega arith in
           rw (p, drop-drop)
 
       short : leb n (length sheets - at) ≡ false → drop end sheets ≡ drop n (drop at sheets)
-      short e =
-          let k = leb-false n (length sheets - at) e in
-          let m = length-drop at sheets in
-          drop-of-length-le sheets (omega arith) ∙ sym (drop-of-length-le (drop at sheets) (omega arith))
+      short t =
+          let k = leb-false n (length sheets - at) t in
+          let a : length sheets ≤ end = omega arith in
+          let b : length (drop at sheets) ≤ n = simp length-drop (omega arith) in
+          drop-of-length-le sheets a ∙ sym (drop-of-length-le (drop at sheets) b)
 
 -- ---- a call that meets its contract stands as the fold says
 
@@ -110,6 +106,19 @@ module _ (sheets : List ℕ) (kept : Replayed) (at end pitch : ℕ) (px : List �
     is = stands-old sheets pitch px scratch px′ scratch′ _ (part at end sheets) (part (kept .from) (kept .to) sheets) (kept .from) (kept .to) a did z refl;
   }
 
+-- px and scratch keep their lengths
+module _ (sheets : List ℕ) (pitch : ℕ) (s : Replayed) (at end : ℕ) (px : List ℕ) (scratch : List Float) (r : Replayed) (px′ : List ℕ) (scratch′ : List Float)
+    (a : Ran sheets (next zeroWord format pitch (standing sheets s px scratch) (part at end sheets)) r px′ scratch′) where
+  px-stays : length px′ ≡ length px
+  unfolding standing next stands
+  px-stays = ap (λ (t : Stand Float). length (t .px)) (a .is) ∙ length-pixels kind pitch _ px
+
+  scratch-stays : length scratch′ ≡ length scratch
+  unfolding standing next stands
+  scratch-stays =
+      ap (λ (t : Stand Float). length (t .scratch)) (a .is)
+      ∙ length-cleared zeroWord format _ scratch (patch-enough zeroWord format (part (s .from) (s .to) sheets) (part at end sheets) pitch (length px) (length scratch))
+
 -- ---- the loop of `patches`
 
 module _ (sheets lens : List ℕ) (s₀ : Replayed) (at₀ pitch : ℕ) (px₀ : List ℕ) (scratch₀ : List Float) where
@@ -122,10 +131,12 @@ module _ (sheets lens : List ℕ) (s₀ : Replayed) (at₀ pitch : ℕ) (px₀ :
     pub at-in : at ≤ length sheets
     pub ordered : s .from ≤ s .to
     pub within : s .to ≤ length sheets
+    pub px-long : length px ≡ length px₀
+    pub scratch-long : length scratch ≡ length scratch₀
     pub is : run zeroWord format pitch (standing sheets s px scratch) (cut (drop k lens) (drop at sheets)) ≡ all
 
   pub running-first : s₀ .from ≤ s₀ .to → s₀ .to ≤ length sheets → at₀ ≤ length sheets → Running s₀ at₀ 0 px₀ scratch₀
-  running-first h k a = record { k-in = omega arith; at-in = a; ordered = h; within = k; is = refl }
+  running-first h k a = record { k-in = omega arith; at-in = a; ordered = h; within = k; px-long = refl; scratch-long = refl; is = refl }
 
   pub running-done : (s : Replayed) (at k : ℕ) (px : List ℕ) (scratch : List Float) → Running s at k px scratch → length lens ≤ k
       → Ran sheets all s px scratch
@@ -136,32 +147,40 @@ module _ (sheets lens : List ℕ) (s₀ : Replayed) (at₀ pitch : ℕ) (px₀ :
     is = rw (drop-of-length-le lens h) at (i .is);
   }
 
-  pub running-next : (s : Replayed) (at k : ℕ) (px : List ℕ) (scratch : List Float) (r : Replayed) (px′ : List ℕ) (scratch′ : List Float)
-      → Running s at k px scratch → k < length lens
-      → Ran sheets (next zeroWord format pitch (standing sheets s px scratch) (part at (end sheets at (getD lens k 0)) sheets)) r px′ scratch′
-      → Running r (end sheets at (getD lens k 0)) (k + 1) px′ scratch′
+  pub running-next : (s : Replayed) (at k : ℕ) (px : List ℕ) (scratch : List Float) (end : ℕ) (r : Replayed) (px′ : List ℕ) (scratch′ : List Float)
+      → Running s at k px scratch → k < length lens → end ≡ at + min (getD lens k 0) (length sheets - at)
+      → Ran sheets (next zeroWord format pitch (standing sheets s px scratch) (part at end sheets)) r px′ scratch′
+      → Running r end (k + 1) px′ scratch′
   unfolding run cut
-  running-next s at k px scratch r px′ scratch′ i h a =
+  running-next s at k px scratch end r px′ scratch′ i h e a =
       let n = getD lens k 0 in
       let c : cut (drop k lens) (drop at sheets) ≡ take n (drop at sheets) ∷ cut (drop (k + 1) lens) (drop n (drop at sheets)) =
       rw (drop-cons lens k 0 h, cut, add-one) in
       record {
         k-in = omega arith;
-        at-in = omega (arith, i .at-in);
+        at-in = omega (arith, i .at-in, e);
         ordered = a .ordered;
         within = a .within;
-        is = rw (a .is, there sheets at n (i .at-in), beyond sheets at n (i .at-in)) (rw c at (i .is));
+        px-long = px-stays sheets pitch s at end px scratch r px′ scratch′ a ∙ i .px-long;
+        scratch-long = scratch-stays sheets pitch s at end px scratch r px′ scratch′ a ∙ i .scratch-long;
+        is = rw (a .is, there sheets at n end e (i .at-in), beyond sheets at n end e (i .at-in)) (rw c at (i .is));
       }
 
 -- ---- `replay`: a painting, and where it is accepted the loop
 
-module _ (sheets : List ℕ) (first : ℕ) (lens : List ℕ) (pitch : ℕ) (px : List ℕ) (scratch : List Float) (a : Reply) (px₁ : List ℕ) (scratch₁ : List Float)
-    (did : Painted zeroWord format (take first sheets) pitch px scratch a px₁ scratch₁) where
+module _ (sheets : List ℕ) (first end : ℕ) (e : end ≡ 0 + min first (length sheets - 0)) (lens : List ℕ) (pitch : ℕ) (px : List ℕ) (scratch : List Float)
+    (a : Reply) (px₁ : List ℕ) (scratch₁ : List Float) (painted : Painted zeroWord format (take end sheets) pitch px scratch a px₁ scratch₁) where
   abbrev o : Outcome (kind .Shape)
   o = painting format (take first sheets) pitch (length px) (length scratch)
 
   abbrev asked : Stand Float
   asked = replayed zeroWord format pitch (take first sheets) (cut lens (drop first sheets)) px scratch
+
+  whole : part 0 end sheets ≡ take first sheets
+  whole = there sheets 0 first end e (omega arith)
+
+  did : Painted zeroWord format (take first sheets) pitch px scratch a px₁ scratch₁
+  did = rw (← whole, sub-zero) painted
 
   numbered : Numbered o
   numbered = paint-numbered format lawful (take first sheets) pitch (length px) (length scratch)
@@ -176,14 +195,14 @@ module _ (sheets : List ℕ) (first : ℕ) (lens : List ℕ) (pitch : ℕ) (px :
         is = stands-old sheets pitch px scratch px₁ scratch₁ o (take first sheets) [] 0 0 a did z refl ∙ rw no;
       }
 
-  pub replayed-run : a .answer .number ≡ 0 → (to : ℕ) → part 0 to sheets ≡ take first sheets → drop to sheets ≡ drop first sheets
-      → (r : Replayed) (px₂ : List ℕ) (scratch₂ : List Float)
-      → Ran sheets (run zeroWord format pitch (standing sheets (record { reply = a; from = 0; to = to }) px₁ scratch₁) (cut lens (drop to sheets))) r px₂ scratch₂
+  pub replayed-run : a .answer .number ≡ 0 → (r : Replayed) (px₂ : List ℕ) (scratch₂ : List Float)
+      → Ran sheets (run zeroWord format pitch (standing sheets (record { reply = a; from = 0; to = end }) px₁ scratch₁) (cut lens (drop end sheets))) r px₂ scratch₂
       → Ran sheets asked r px₂ scratch₂
   unfolding replayed begun
-  replayed-run z to p d r px₂ scratch₂ ran =
+  replayed-run z r px₂ scratch₂ ran =
       let yes = zero-accepted o numbered (ap (λ (b : Answer). b .number) (sym (did .answers)) ∙ z) in
-      let s = stands-new sheets pitch px scratch px₁ scratch₁ o (take first sheets) [] 0 to a did numbered z p in
+      let s = stands-new sheets pitch px scratch px₁ scratch₁ o (take first sheets) [] 0 end a did numbered z whole in
+      let d = beyond sheets 0 first end e (omega arith) in
       record { ordered = ran .ordered; within = ran .within; is = rw (s, d) at (ran .is) ∙ rw yes }
 
 -- ---- px along the fold
@@ -204,10 +223,16 @@ module _ (pitch : ℕ) (before : List ℕ) where
   run-shows s [] h = h
   run-shows s (b ∷ bs) h = run-shows (next zeroWord format pitch s b) bs (next-shows s b h)
 
-pub shows : (pitch : ℕ) → Shows zeroWord format pitch
-unfolding replayed begun stands
-shows pitch first others px scratch yes =
+begun-shows : (pitch : ℕ) (first px : List ℕ) (scratch : List Float) → accepted (painting format first pitch (length px) (length scratch)) ≡ true
+    → Shown format pitch px (begun zeroWord format pitch first px scratch .kept) (begun zeroWord format pitch first px scratch .px)
+unfolding begun stands
+begun-shows pitch first px scratch accepts =
     let s = begun zeroWord format pitch first px scratch in
     let d : Painted zeroWord format first pitch px scratch (s .reply) (s .px) (s .scratch) =
     record { answers = refl; steps = refl; grounds = refl; paints = refl; clears = refl } in
-    rw yes (run-shows pitch px s others (rw yes (shown-first zeroWord format lawful first pitch px scratch (s .reply) (s .px) (s .scratch) d yes)))
+    rw accepts (shown-first zeroWord format lawful first pitch px scratch (s .reply) (s .px) (s .scratch) d accepts)
+
+pub shows : (pitch : ℕ) → Shows zeroWord format pitch
+unfolding replayed
+shows pitch first others px scratch accepts =
+    rw accepts (run-shows pitch px (begun zeroWord format pitch first px scratch) others (begun-shows pitch first px scratch accepts))

@@ -33,8 +33,8 @@ same-length-2 c = search needs
 
 returns : tie.Need-returns
 returns c =
-    let s = c .before .before .before .before .before .before .before .before .before .before .before .before .before .before in
-    advanced-new (s .args .sheets .now) (s .args .kept .from) (s .args .kept .to) (s .args .at) (s .args .end) _ _ _ _ _ _ (c .before .before .before .before .before .before .patch .ensures) (s .pre .2) (s .pre .3) (c .if1 .taken)
+    let s = c .before .before .before .before .before .before .before .before .before .before .before .before .before in
+    advanced-new (s .args .sheets .now) (s .args .kept) (s .args .at) (s .args .end) (s .args .pitch) _ _ _ _ _ (c .before .before .before .before .before .patch .ensures) (s .pre .2) (s .pre .3) (c .if1 .taken)
 
 same-length-3 : tie.Need-same-length-3
 same-length-3 c = search needs
@@ -44,8 +44,8 @@ same-length-4 c = search needs
 
 returns-2 : tie.Need-returns-2
 returns-2 c =
-    let s = c .before .before .before .before .before .before .before .before .before .before .before .before .before .before in
-    advanced-old (s .args .sheets .now) (s .args .kept .from) (s .args .kept .to) (s .args .at) (s .args .end) _ _ _ _ _ _ (c .before .before .before .before .before .before .patch .ensures) (s .pre .0) (s .pre .1) (c .if1 .left)
+    let s = c .before .before .before .before .before .before .before .before .before .before .before .before .before in
+    advanced-old (s .args .sheets .now) (s .args .kept) (s .args .at) (s .args .end) (s .args .pitch) _ _ _ _ _ (c .before .before .before .before .before .patch .ensures) (s .pre .0) (s .pre .1) (c .if1 .left)
 
 pub advance-spec : {M : Type 1} → statement M
 advance-spec =
