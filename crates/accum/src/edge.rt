@@ -7,7 +7,8 @@ ghost use mathlib.Core.Bool.{cond};
 ghost use Prim.Native.Nat.{_+_, _-_, _*_, _≤_, min};
 ghost use lib.ListN.{length};
 ghost use Rattle.mathf.specs.F32.{_<ᶠ_};
-ghost use Rattle.accum.specs.Lines.{rowBetween, rowHeight, rowNext, edgeRow, edgeRows, startX, edgeDown, edgeOf, firstRow, endRow, lineAccum};
+ghost use Rattle.accum.specs.Lines.{rowBetween, rowHeight, rowNext, edgeRow, edgeRows, startX, edgeDown, edgeOf, firstRow};
+ghost use Rattle.accum.specs.Lines.{endRow, lineAccum};
 ghost use Rattle.accum.specs.Rooms.{Room};
 
 // An edge that runs down from top to bottom, with x where its first row begins. dir is -1 where it ran up.

@@ -33,7 +33,13 @@ abbrev pub fMax : Float
 fMax = ofBits binary32 0x7f7f_ffff
 
 abbrev pub widened : Extent → Pt → Extent
-widened e p = record { minx = minOf (e .minx) (p .x); miny = minOf (e .miny) (p .y); maxx = maxOf (e .maxx) (p .x); maxy = maxOf (e .maxy) (p .y) }
+widened e p = record {
+  minx = minOf (e .minx) (p .x);
+  miny = minOf (e .miny) (p .y);
+  maxx = maxOf (e .maxx) (p .x);
+  maxy = maxOf
+      (e .maxy) (p .y);
+}
 
 -- minx, miny, maxx and maxy over the first n points
 unfoldable pub extentOf : List Float → ℕ → Extent

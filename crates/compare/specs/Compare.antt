@@ -1,5 +1,6 @@
--- How two sheets differ (document 01, a patch; document 02, 2026-01 and 2026-09), by any bytes. Where the new sheet is accepted it is redraw's
--- `change` at the format of items (proofs/Walks). Assumes nothing.
+-- How two sheets differ (document 01, a patch; document 02, 2026-01 and 2026-09), by any bytes. Where the new sheet is accepted
+-- it is redraw's `change` at the format of items (proofs/Walks). No call of the library cites this file: `changed`, which `patch`
+-- calls, does. Assumes nothing.
 use Prim.Native.Nat.{ℕ, zero, suc, _+_}
 use mathlib.Core.Bool.{Bool, cond}
 use mathlib.Core.List.{List, []}
@@ -22,8 +23,8 @@ reachAt s k = reachOf (bytesAt s k) (itemOf (bytesAt s k))
 unfoldable pub sameAt : List ℕ → List ℕ → ℕ → Bool
 sameAt old new k = sameItem (itemIn (bytesAt old k)) (itemIn (bytesAt new k))
 
--- how `left` items from the item k on differ, in the state c of the canvas before it, whose clip is that of both sheets: items that are the same
--- alter it, and those that differ are shapes in both, which leave it
+-- how `left` items from the item k on differ, in the state c of the canvas before it, whose clip is that of both sheets: items
+-- that are the same alter it, and those that differ are shapes in both, which leave it
 unfoldable pub changeFrom : List ℕ → List ℕ → ℕ → ℕ → Canvas → Change (List ℕ)
 changeFrom old new zero k c = shapes []
 changeFrom old new (suc left) k c =

@@ -79,7 +79,8 @@ fn cut_at(canvas: IRect, clip: IRect, s: &[u8], k: u16) -> IRect
 
 // The smallest box around a box and what the reaches of the items k, cut by the clip in force at them, have in a canvas.
 fn area_with(area: IRect, canvas: IRect, clip: IRect, old: &[u8], new: &[u8], k: u16) -> IRect
-    ensures { λ r. ⌜ r ≡ Box.join (Box.join area (meet canvas (meet clip (reachAt (now (old .entry)) k)))) (meet canvas (meet clip (reachAt (now (new .entry)) k))) ⌝ }
+    ensures { λ r. ⌜ r ≡ Box.join (Box.join area (meet canvas (meet clip (reachAt (now (old .entry)) k))))
+        (meet canvas (meet clip (reachAt (now (new .entry)) k))) ⌝ }
 {
     let a = cut_at(canvas, clip, old, k);
     let b = cut_at(canvas, clip, new, k);
@@ -102,8 +103,8 @@ fn refusal(number: u32) -> Difference
     }
 }
 
-// What so many pairs of shapes that differ tell, by the box around what their reaches, under their clips, have in the canvas; an empty one is four
-// zeros.
+// What so many pairs of shapes that differ tell, by the box around what their reaches, under their clips, have in the canvas; an
+// empty one is four zeros.
 fn settled(count: usize, area: IRect) -> Difference
     ensures { λ r. ⌜ r ≡ settled count (Box.join area noBox) ⌝ }
 {
@@ -116,11 +117,12 @@ fn settled(count: usize, area: IRect) -> Difference
     }
 }
 
-// What two sheets of n items each tell. A push or a pop that differs is refused by 10, wherever it stands; so the loop goes on past 32 shapes, and
-// the clip is that of both sheets all along.
+// What two sheets of n items each tell. A push or a pop that differs is refused by 10, wherever it stands; so the loop goes on
+// past 32 shapes, and the clip is that of both sheets all along.
 fn changed_in(old: &[u8], new: &[u8], n: usize) -> Difference
     requires { ⌜ n < 65536 ⌝ }
-    ensures { λ r. ⌜ r ≡ changedBy (canvas (sheetOf (now (new .entry)))) (changeFrom (now (old .entry)) (now (new .entry)) n 0 (startOf (now (new .entry)))) ⌝ }
+    ensures { λ r. ⌜ r ≡ changedBy (canvas (sheetOf (now (new .entry))))
+        (changeFrom (now (old .entry)) (now (new .entry)) n 0 (startOf (now (new .entry)))) ⌝ }
 {
     let canvas = canvas_of(new);
     let mut state = start_state(new);

@@ -1,4 +1,5 @@
--- The bytes of a sheet (document 01, "The sheet") from its header and its items, and what a call that writes a sheet promises. Assumes nothing.
+-- The bytes of a sheet (document 01, "The sheet") from its header and its items, and what a call that writes a sheet promises.
+-- Assumes nothing.
 use Prim.Native.Nat.{ℕ, _+_, _*_, _/_, _%_}
 use mathlib.Core.Bool.{cond}
 use mathlib.Core.List.{List, [], _∷_, _++_}
@@ -34,8 +35,8 @@ encoded head its = head ++ (u16 (length its) ++ (0 ∷ 0 ∷ pairs (12 + 4 * len
 abbrev pub fitNumber : List ℕ → ℕ → ℕ
 fitNumber sheet room = unless (leb (length sheet) room) 19 0
 
--- what a call promises that is refused by the number n, beside an item, or else (0) writes a sheet: it returns the sheet's length, 0 where
--- it is refused; bytes past the sheet stay as they came, and so do all where it is refused
+-- what a call promises that is refused by the number n, beside an item, or else (0) writes a sheet: it returns the sheet's
+-- length, 0 where it is refused; bytes past the sheet stay as they came, and so do all where it is refused
 pub record Wrote (n item : ℕ) (sheet buf : List ℕ) (r : Written) (buf′ : List ℕ) : Type 0 where
   pub answers : r ≡ record { number = n; item = item; len = cond (eqb n 0) (length sheet) 0 }
   pub writes : buf′ ≡ cond (eqb n 0) (sheet ++ drop (length sheet) buf) buf

@@ -1,5 +1,5 @@
--- The falloff of a shadow: its 97 fractions by the formula of gfx.rs, their table on file, the level of a fraction, and the table of
--- levels. Each f32 operation is rounded once, in the order written.
+-- The falloff of a shadow: its 97 fractions by the formula of gfx.rs, their table on file, the level of a fraction, and the table
+-- of levels. Each f32 operation is rounded once, in the order written.
 use mathlib.Core.Path.{_≡_}
 use mathlib.Core.List.{List, [], _∷_, _++_}
 use Prim.Native.Nat.{ℕ, zero, suc, _*_, _^_, _<_}

@@ -25,5 +25,6 @@ onRow w rect c px = drawn w (boxOf (pos 0) (pos 0) (pos w) (pos 1)) (fillReach r
 pub half-white-and-red :
     (onRow 2 (rectOf f½ f0 f1 f1) (rgbaOf 255 255 255 255) (0 ∷ 0 ∷ []) ≡ 0x0080_8080 ∷ 0x0080_8080 ∷ [])
     × (onRow 4 (rectOf f0 f0 f1 f1) (rgbaOf 255 0 0 255) (0 ∷ 0 ∷ 0 ∷ 0 ∷ []) ≡ 0x00ff_0000 ∷ 0 ∷ 0 ∷ 0 ∷ [])
-unfolding drawn onto eachAt meets inside inColumns fillReach noArea outerOf middle coverOf rimInk middleInk roundInk paintAt radiusOf rrectSd cornerSd cov8Of blended coveredBy floorOf ceilOf ofBits round add sub mul ofInt lt le ne toSigned toUnsigned
+unfolding drawn onto eachAt meets inside inColumns fillReach noArea outerOf middle coverOf rimInk middleInk roundInk paintAt
+    radiusOf rrectSd cornerSd cov8Of blended coveredBy floorOf ceilOf ofBits round add sub mul ofInt lt le ne toSigned toUnsigned
 half-white-and-red = (refl, refl)

@@ -75,7 +75,8 @@ fillInk rect r paint = roundInk rect (radiusOf rect r) paint
 -- px as it came, the answer, and px as it is left
 abbrev pub Filled : Canvas → Bool → Rect → Float → Paint → List ℕ → Counted → List ℕ → Type 0
 Filled canvas ok rect r paint px =
-    ShapeCalled (shapeNumber canvas (length px) ok) canvas px (drawn (canvas .pitch) (canvas .clip) (fillReach rect) (fillInk rect r paint) px)
+    ShapeCalled (shapeNumber canvas (length px) ok) canvas px
+    (drawn (canvas .pitch) (canvas .clip) (fillReach rect) (fillInk rect r paint) px)
 
 -- the limit reads the numbers given to each call
 abbrev pub rrectFloats : Rect → Float → Paint → Bool

@@ -458,7 +458,8 @@ pub fn fill_circle(
     r: f32,
     paint: Paint,
 ) -> Counted
-    ensures { λ d. ⌜ Filled canvas (circleFloats cx cy r paint) (circleRect cx cy r) r paint (now (px .entry)) d (now (px .exit)) ⌝ }
+    ensures { λ d. ⌜ Filled canvas (circleFloats cx cy r paint) (circleRect cx cy r) r paint (now (px .entry)) d (now (px .exit))
+        ⌝ }
 {
     let ok = float_ok(cx) & float_ok(cy) & float_ok(r) & paint.in_range();
     let rect = Rect::new(cx - r, cy - r, r * 2.0, r * 2.0);
@@ -481,7 +482,8 @@ fn store_box(px: &mut [u32], pitch: usize, bb: Area, v: u32) -> u32
 
 // The pixels of the clip set to a colour, as a sheet's ground is, whatever its alpha.
 pub fn fill_ground(canvas: Canvas, px: &mut [u32], c: Color) -> Counted
-    ensures { λ d. ⌜ ShapeCalled (pxNumber canvas (length (now (px .entry)))) canvas (now (px .entry)) (drawn (canvas .pitch) (canvas .clip) (canvas .clip) (λ _ _ _. pixOf c) (now (px .entry))) d (now (px .exit)) ⌝ }
+    ensures { λ d. ⌜ ShapeCalled (pxNumber canvas (length (now (px .entry)))) canvas (now (px .entry))
+        (drawn (canvas .pitch) (canvas .clip) (canvas .clip) (λ _ _ _. pixOf c) (now (px .entry))) d (now (px .exit)) ⌝ }
 {
     let number = canvas.px_number(px.len());
     if number != 0 {

@@ -1,4 +1,5 @@
--- What the calls keep: a state that is valid, with its pitch in range. No contract cites it; `stays-sound` (proofs/Kept) proves it.
+-- What the calls keep: a state that is valid, with its pitch in range. No contract cites it; `stays-sound` (proofs/Kept) proves
+-- it.
 use mathlib.Core.Bool.{true}
 use mathlib.Core.Path.{_≡_}
 use Prim.Native.Nat.{ℕ}

@@ -241,7 +241,8 @@ impl Canvas {
     // A new canvas with the sides raised, its pixels set to zeros.
     fn blank(w: i32, h: i32, pitch: usize, px: &mut [u32]) -> Canvas
         requires { ⌜ newNumber w h pitch (length (now px)) ≡ 0 ⌝ }
-        ensures { λ r. ⌜ (r ≡ freshOf (raised w) (raised h) pitch) × (now (px .exit) ≡ framed pitch (up (raised w)) 0 (now (px .entry))) ⌝ }
+        ensures { λ r. ⌜ (r ≡ freshOf (raised w) (raised h) pitch)
+            × (now (px .exit) ≡ framed pitch (up (raised w)) 0 (now (px .entry))) ⌝ }
     {
         let a = raise(w);
         let b = raise(h);
@@ -298,7 +299,9 @@ impl Canvas {
 
     // A new canvas, whose pixels are zeros. A side below 1 is raised to 1.
     pub fn new(w: i32, h: i32, pitch: usize, px: &mut [u32]) -> Done
-        ensures { λ r. ⌜ Called (newNumber w h pitch (length (now (px .entry)))) (freshOf (pos 0) (pos 0) 0) (freshOf (raised w) (raised h) pitch) (now (px .entry)) (framed pitch (up (raised w)) 0 (now (px .entry))) r (now (px .exit)) ⌝ }
+        ensures { λ r. ⌜ Called (newNumber w h pitch (length (now (px .entry)))) (freshOf (pos 0) (pos 0) 0)
+            (freshOf (raised w) (raised h) pitch) (now (px .entry)) (framed pitch (up (raised w)) 0 (now (px .entry))) r
+            (now (px .exit)) ⌝ }
     {
         let number = new_number(w, h, pitch, px.len());
         if number != 0 {
@@ -314,7 +317,8 @@ impl Canvas {
     // Another size, whose pixels are zeros, in rows as long as before; the same size alters nothing.
     // A side below 1 is raised to 1.
     pub fn resize(self, w: i32, h: i32, px: &mut [u32]) -> Done
-        ensures { λ r. ⌜ Called (resizeNumber self w h (length (now (px .entry)))) self (resized self w h) (now (px .entry)) (resizedPx self w h (now (px .entry))) r (now (px .exit)) ⌝ }
+        ensures { λ r. ⌜ Called (resizeNumber self w h (length (now (px .entry)))) self (resized self w h) (now (px .entry))
+            (resizedPx self w h (now (px .entry))) r (now (px .exit)) ⌝ }
     {
         let number = self.resize_number(w, h, px.len());
         if number != 0 {
@@ -418,7 +422,8 @@ impl Canvas {
 
     // Every pixel set to a colour, whatever the clip.
     pub fn clear(self, px: &mut [u32], c: Color) -> Done
-        ensures { λ r. ⌜ Called (pxNumber self (length (now (px .entry)))) self self (now (px .entry)) (clearedTo self (pixOf c) (now (px .entry))) r (now (px .exit)) ⌝ }
+        ensures { λ r. ⌜ Called (pxNumber self (length (now (px .entry)))) self self (now (px .entry))
+            (clearedTo self (pixOf c) (now (px .entry))) r (now (px .exit)) ⌝ }
     {
         let number = self.px_number(px.len());
         if number != 0 {

@@ -1,5 +1,5 @@
--- The sheet as painting and patching take it: redraw's `Kind` and `Format`. An item is its bytes: of a shape they say its reach, its ink and
--- the scratch words that it needs, of a push its box. Assumes nothing.
+-- The sheet as painting and patching take it: redraw's `Kind` and `Format`. An item is its bytes: of a shape they say its reach,
+-- its ink and the scratch words that it needs, of a push its box. Assumes nothing.
 use Prim.Native.Nat.{ℕ, zero, suc, _+_, max}
 use mathlib.Core.Bool.{Bool, true, false, cond, _&&_}
 use mathlib.Core.List.{List, [], _∷_}

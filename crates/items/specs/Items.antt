@@ -1,5 +1,5 @@
--- The items of a sheet as values (document 01, "The sheet"). An item is read from its own bytes, of which p is a place. Reading is total:
--- past the end a byte is 0, and a kind that no accepted sheet has is an item that draws nothing. Assumes nothing.
+-- The items of a sheet as values (document 01, "The sheet"). An item is read from its own bytes, of which p is a place. Reading
+-- is total: past the end a byte is 0, and a kind that no accepted sheet has is an item that draws nothing. Assumes nothing.
 use Prim.Native.Nat.{ℕ, zero, suc, _+_, _-_, _*_, _≤_}
 use mathlib.Core.List.{List, [], _∷_}
 use lib.Dec.{eqb}

@@ -9,7 +9,8 @@ use sheet::u16_at;
 ghost use mathlib.Core.Path.{_≡_};
 ghost use Prim.Native.Nat.{_<_, min};
 ghost use Rattle.sheet.specs.Check.{bytesAt};
-ghost use Rattle.items.specs.Items.{readColor, readPt, readRect, readPaint, readFill, readStroke, readLine, readPoly, readShadow, readChain, readItem, itemOf, Lies, coordsFrom, groundOf};
+ghost use Rattle.items.specs.Items.{readColor, readPt, readRect, readPaint, readFill, readStroke, readLine, readPoly};
+ghost use Rattle.items.specs.Items.{readShadow, readChain, readItem, itemOf, Lies, coordsFrom, groundOf};
 
 pub mod reaches;
 pub mod reader;
@@ -270,8 +271,8 @@ fn cut_part(s: &[u8], k: u16) -> Part
     Part { from, to }
 }
 
-// Where the bytes of the item k lie; no byte past the sheet's end is one of them. One test for the pair, so that none of its bytes
-// needs its own.
+// Where the bytes of the item k lie; no byte past the sheet's end is one of them. One test for the pair, so that none of its
+// bytes needs its own.
 fn part_at(s: &[u8], k: u16) -> Part
     ensures { λ r. ⌜ Lies (now (s .entry)) k (r .from) (r .to) ⌝ }
 {

@@ -47,7 +47,8 @@ fn points_need(b: &[u8]) -> usize
 
 // The reach of a chain's lines.
 fn chain_reach(b: &[u8]) -> IRect
-    ensures { λ r. ⌜ ((c : Color) → r ≡ chainReach (now (b .entry)) (floatAt (now (b .entry)) 4) c (pointsAt (now (b .entry)) 0)) ⌝ }
+    ensures { λ r. ⌜ ((c : Color) → r ≡ chainReach (now (b .entry)) (floatAt (now (b .entry)) 4) c (pointsAt (now (b .entry)) 0))
+        ⌝ }
 {
     let n = u16_at(b, 2);
     if n > 64 {

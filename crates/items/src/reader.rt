@@ -1,5 +1,5 @@
-// A sheet being read: its lent bytes and the number of the next item, counted from 0. A function that has a sheet and a number reads
-// by `item_bytes`.
+// A sheet being read: its lent bytes and the number of the next item, counted from 0. A function that has a sheet and a number
+// reads by `item_bytes`.
 use crate::bytes_at;
 ghost use mathlib.Core.Path.{_≡_};
 ghost use Rattle.sheet.specs.Check.{bytesAt};

@@ -1,5 +1,6 @@
 // Small clip orders: the call with a buffer of which every byte is known, and what it must answer and leave.
-// The file holds the number of sheets; each sheet then has its length in bytes, its 16 pixels and its bytes, which are whole words.
+// The file holds the number of sheets; each sheet then has its length in bytes, its 16 pixels and its bytes, which are whole
+// words.
 use crate::lent::same_words;
 use cases::same_box;
 use cases::word::from;
@@ -51,13 +52,15 @@ fn leaves_in(buf: &mut [u8], lent: usize, k: usize, number: u32, sheet: &[u8]) -
     said & holds(buf, sheet)
 }
 
-// Whether the call, lent so many bytes of a buffer, answers with a number and leaves a sheet in it; an empty one where it refuses.
+// Whether the call, lent so many bytes of a buffer, answers with a number and leaves a sheet in it; an empty one where it
+// refuses.
 fn leaves(lent: usize, k: usize, number: u32, sheet: &[u8]) -> bool {
     let mut buf = marked();
     leaves_in(&mut buf, lent, k, number, sheet)
 }
 
-// Whether a sheet paints the stored pixels, over a colour that no sheet here has, with no scratch; it is accepted, with the whole canvas as its box.
+// Whether a sheet paints the stored pixels, over a colour that no sheet here has, with no scratch; it is accepted, with the whole
+// canvas as its box.
 fn paints(sheet: &[u8], case: &[u8]) -> bool {
     let mut px = [0x1234_5678; 16];
     let mut scratch = [0.0; 0];
@@ -76,9 +79,9 @@ fn past(k: usize) -> usize {
     }
 }
 
-// Whether sheet i is as stored. The kinds: 2, written into a buffer of just its length; 3, refused in one of a byte less, where a byte less than
-// none is a whole buffer; 4, written and painted; 5, the i-th number past the last, refused in a whole buffer and in none; any other, written
-// into a whole buffer. A sheet of another length than its words say agrees with nothing.
+// Whether sheet i is as stored. The kinds: 2, written into a buffer of just its length; 3, refused in one of a byte less, where a
+// byte less than none is a whole buffer; 4, written and painted; 5, the i-th number past the last, refused in a whole buffer and
+// in none; any other, written into a whole buffer. A sheet of another length than its words say agrees with nothing.
 pub(crate) fn said(case: &[u8], kind: u32, i: u32) -> bool {
     let k = i as usize;
     let len = word(case, 0);

@@ -1,5 +1,5 @@
-// Counting a function's stored cases and those that differ. The areas: 0 mathf, 1 color, 2 geom, 3 canvas calls, 4 paints, 5 shapes,
-// 6 sheets, 7 patches, 8 small clip orders.
+// Counting a function's stored cases and those that differ. The areas: 0 mathf, 1 color, 2 geom, 3 canvas calls, 4 paints, 5
+// shapes, 6 sheets, 7 patches, 8 small clip orders.
 use crate::clip_orders;
 use crate::lent::as_stored;
 use crate::lent::fill;
@@ -111,8 +111,8 @@ fn of_function(area: u32, case: &[u8], f: u32, i: u32) -> bool {
     (f == ALL) | (f == word(case, 0))
 }
 
-// What case i comes to, which begins the bytes: 0 where it is another function's, 1 where it agrees, 2 where it differs. A case that is not
-// all there agrees with nothing.
+// What case i comes to, which begins the bytes: 0 where it is another function's, 1 where it agrees, 2 where it differs. A case
+// that is not all there agrees with nothing.
 fn judged(area: u32, bytes: &[u8], f: u32, i: u32) -> u32
     ensures { λ r. ⌜ r ≤ 2 ⌝ }
 {

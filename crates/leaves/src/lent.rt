@@ -49,8 +49,8 @@ fn next_place(first: bool, place: u32, more: u32) -> u32 {
     }
 }
 
-// Whether px are left as stored. The words are a pitch, so many columns, and what the first words of each row then are: `more` is 1 where each
-// has its own, 0 where all are one. All other words run in equal steps, as before the call.
+// Whether px are left as stored. The words are a pitch, so many columns, and what the first words of each row then are: `more` is
+// 1 where each has its own, 0 where all are one. All other words run in equal steps, as before the call.
 pub(crate) fn same_frame(px: &[u32], steps: &[u8], words: &[u8], more: u32) -> bool {
     let mut v = word(steps, 0);
     let step = word(steps, 1);

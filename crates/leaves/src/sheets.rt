@@ -1,4 +1,5 @@
-// Sheet calls: a case has the call's kind, what is lent, what the call must answer and leave, and the bytes of the old and the new sheet.
+// Sheet calls: a case has the call's kind, what is lent, what the call must answer and leave, and the bytes of the old and the
+// new sheet.
 use crate::lent::scratch;
 use cases::irect;
 use cases::same_box;

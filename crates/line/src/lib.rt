@@ -159,7 +159,8 @@ fn draw_line(
     color: Color,
 ) -> u32
     requires { ⌜ AreaFits pitch (clipTo (lineReach a b width) clip) (length (now px)) ⌝ }
-    ensures { λ n. ⌜ Drew 4194304 (now (px .entry)) (drawn pitch clip (lineReach a b width) (lineInk a b width color) (now (px .entry))) n (now (px .exit)) ⌝ }
+    ensures { λ n. ⌜ Drew 4194304 (now (px .entry))
+        (drawn pitch clip (lineReach a b width) (lineInk a b width color) (now (px .entry))) n (now (px .exit)) ⌝ }
 {
     let bb = clipped(line_reach(a, b, width), clip);
     if bb.y0 < bb.y1 {
@@ -176,7 +177,9 @@ fn line_ok(a: Pt, b: Pt, width: f32) -> bool
 
 // A line between two points.
 pub fn line(canvas: Canvas, px: &mut [u32], a: Pt, b: Pt, width: f32, color: Color) -> Counted
-    ensures { λ r. ⌜ ShapeCalled (shapeNumber canvas (length (now (px .entry))) (lineOk a b width)) canvas (now (px .entry)) (drawn (canvas .pitch) (canvas .clip) (lineReach a b width) (lineInk a b width color) (now (px .entry))) r (now (px .exit)) ⌝ }
+    ensures { λ r. ⌜ ShapeCalled (shapeNumber canvas (length (now (px .entry))) (lineOk a b width)) canvas (now (px .entry))
+        (drawn (canvas .pitch) (canvas .clip) (lineReach a b width) (lineInk a b width color) (now (px .entry))) r
+        (now (px .exit)) ⌝ }
 {
     let number = canvas.shape_number(px.len(), line_ok(a, b, width));
     if number != 0 {
@@ -254,7 +257,9 @@ fn draw_lines(
 
 // Lines between successive points, whose coordinates stand one after another.
 pub fn polyline(canvas: Canvas, px: &mut [u32], pts: &[f32], width: f32, color: Color) -> Counted
-    ensures { λ r. ⌜ CalledCounted (pointsNumber canvas (length (now (px .entry))) (now (pts .entry)) (floatOk width)) canvas (now (px .entry)) (polylined (canvas .pitch) (canvas .clip) (now (pts .entry)) width color (now (px .entry))) (polylineSteps (canvas .pitch) (canvas .clip) (now (pts .entry)) width color (now (px .entry))) r (now (px .exit)) ⌝ }
+    ensures { λ r. ⌜ CalledCounted (pointsNumber canvas (length (now (px .entry))) (now (pts .entry)) (floatOk width)) canvas
+        (now (px .entry)) (polylined (canvas .pitch) (canvas .clip) (now (pts .entry)) width color (now (px .entry)))
+        (polylineSteps (canvas .pitch) (canvas .clip) (now (pts .entry)) width color (now (px .entry))) r (now (px .exit)) ⌝ }
 {
     let number = points_number(canvas, px.len(), pts, float_ok(width));
     if number != 0 {

@@ -61,4 +61,5 @@ pointsKindNumber c n pts = andThen (pxNumber c n) (unless (pointsOk pts) 13 5)
 -- what a fill with a brush promises: but for its number, what the fill with its paint does
 abbrev pub Brushed : Canvas → Brush → Bool → Rect → Float → List ℕ → Counted → List ℕ → Type 0
 Brushed canvas b ok rect r px =
-    ShapeCalled (brushNumber canvas (length px) b ok) canvas px (drawn (canvas .pitch) (canvas .clip) (fillReach rect) (fillInk rect r (paintOf b)) px)
+    ShapeCalled (brushNumber canvas (length px) b ok) canvas px
+    (drawn (canvas .pitch) (canvas .clip) (fillReach rect) (fillInk rect r (paintOf b)) px)

@@ -15,12 +15,15 @@ ghost use Rattle.geom.specs.Int.{up};
 ghost use Rattle.color.specs.Colours.{pixOf};
 ghost use Rattle.draw.specs.Frame.{framed};
 ghost use Rattle.gfx.specs.State.{freshOf, pushed, popped};
-ghost use Rattle.gfx.specs.Calls.{Called, answer, boxAnswer, pixelAnswer, raised, newNumber, resizeNumber, resized, resizedPx, stateNumber, pushBoxNumber, pushNumber, pxNumber, clearedTo, pixelAt};
+ghost use Rattle.gfx.specs.Calls.{Called, answer, boxAnswer, pixelAnswer, raised, newNumber, resizeNumber, resized, resizedPx};
+ghost use Rattle.gfx.specs.Calls.{stateNumber, pushBoxNumber, pushNumber, pxNumber, clearedTo, pixelAt};
 
 // A new canvas, whose pixels are zeros. A side below 1 is raised to 1.
 #[no_mangle]
 pub extern "C" fn maldjupp_new(w: i32, h: i32, pitch: usize, px: &mut [u32]) -> Done
-    ensures { λ r. ⌜ Called (newNumber w h pitch (length (now (px .entry)))) (freshOf (pos 0) (pos 0) 0) (freshOf (raised w) (raised h) pitch) (now (px .entry)) (framed pitch (up (raised w)) 0 (now (px .entry))) r (now (px .exit)) ⌝ }
+    ensures { λ r. ⌜ Called (newNumber w h pitch (length (now (px .entry)))) (freshOf (pos 0) (pos 0) 0)
+        (freshOf (raised w) (raised h) pitch) (now (px .entry)) (framed pitch (up (raised w)) 0 (now (px .entry))) r
+        (now (px .exit)) ⌝ }
 {
     Canvas::new(w, h, pitch, px)
 }
@@ -28,7 +31,8 @@ pub extern "C" fn maldjupp_new(w: i32, h: i32, pitch: usize, px: &mut [u32]) -> 
 // Another size, whose pixels are zeros, in rows as long as before; the same size alters nothing. A side below 1 is raised to 1.
 #[no_mangle]
 pub extern "C" fn maldjupp_resize(canvas: Canvas, w: i32, h: i32, px: &mut [u32]) -> Done
-    ensures { λ r. ⌜ Called (resizeNumber canvas w h (length (now (px .entry)))) canvas (resized canvas w h) (now (px .entry)) (resizedPx canvas w h (now (px .entry))) r (now (px .exit)) ⌝ }
+    ensures { λ r. ⌜ Called (resizeNumber canvas w h (length (now (px .entry)))) canvas (resized canvas w h) (now (px .entry))
+        (resizedPx canvas w h (now (px .entry))) r (now (px .exit)) ⌝ }
 {
     canvas.resize(w, h, px)
 }
@@ -76,7 +80,8 @@ pub extern "C" fn maldjupp_pop_clip(canvas: Canvas) -> Done
 // Every pixel set to a colour, whatever the clip.
 #[no_mangle]
 pub extern "C" fn maldjupp_clear(canvas: Canvas, px: &mut [u32], c: Color) -> Done
-    ensures { λ r. ⌜ Called (pxNumber canvas (length (now (px .entry)))) canvas canvas (now (px .entry)) (clearedTo canvas (pixOf c) (now (px .entry))) r (now (px .exit)) ⌝ }
+    ensures { λ r. ⌜ Called (pxNumber canvas (length (now (px .entry)))) canvas canvas (now (px .entry))
+        (clearedTo canvas (pixOf c) (now (px .entry))) r (now (px .exit)) ⌝ }
 {
     canvas.clear(px, c)
 }

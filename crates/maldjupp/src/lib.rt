@@ -40,7 +40,8 @@ pub extern "C" fn maldjupp_paint(
     px: &mut [u32],
     scratch: &mut [f32],
 ) -> Reply
-    ensures { λ r. ⌜ Painted zeroWord format (now (sheet .entry)) pitch (now (px .entry)) (now (scratch .entry)) r (now (px .exit)) (now (scratch .exit)) ⌝ }
+    ensures { λ r. ⌜ Painted zeroWord format (now (sheet .entry)) pitch (now (px .entry)) (now (scratch .entry)) r
+        (now (px .exit)) (now (scratch .exit)) ⌝ }
 {
     paint(sheet, pitch, px, scratch)
 }
@@ -54,7 +55,8 @@ pub extern "C" fn maldjupp_patch(
     px: &mut [u32],
     scratch: &mut [f32],
 ) -> Reply
-    ensures { λ r. ⌜ Patched zeroWord format (now (old .entry)) (now (new .entry)) pitch (now (px .entry)) (now (scratch .entry)) r (now (px .exit)) (now (scratch .exit)) ⌝ }
+    ensures { λ r. ⌜ Patched zeroWord format (now (old .entry)) (now (new .entry)) pitch (now (px .entry)) (now (scratch .entry))
+        r (now (px .exit)) (now (scratch .exit)) ⌝ }
 {
     patch(old, new, pitch, px, scratch)
 }
@@ -62,7 +64,8 @@ pub extern "C" fn maldjupp_patch(
 // Writes the small clip order of a number, from 0: 23 for a number of 1,093 or more, 19 for a buffer in which it does not fit.
 #[no_mangle]
 pub extern "C" fn maldjupp_clip_order(number: usize, buf: &mut [u8]) -> Written
-    ensures { λ r. ⌜ Wrote (orderNumber number (length (now (buf .entry)))) 0 (orderSheet number) (now (buf .entry)) r (now (buf .exit)) ⌝ }
+    ensures { λ r. ⌜ Wrote (orderNumber number (length (now (buf .entry)))) 0 (orderSheet number) (now (buf .entry)) r
+        (now (buf .exit)) ⌝ }
 {
     clip_order(number, buf)
 }

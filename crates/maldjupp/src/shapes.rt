@@ -85,7 +85,8 @@ pub extern "C" fn maldjupp_fill_circle(
     r: f32,
     brush: Brush,
 ) -> Counted
-    ensures { λ d. ⌜ Brushed canvas brush (circleFloats cx cy r (paintOf brush)) (circleRect cx cy r) r (now (px .entry)) d (now (px .exit)) ⌝ }
+    ensures { λ d. ⌜ Brushed canvas brush (circleFloats cx cy r (paintOf brush)) (circleRect cx cy r) r (now (px .entry)) d
+        (now (px .exit)) ⌝ }
 {
     if brush.kind > 3 {
         let number = five_number(canvas, px.len());
@@ -108,7 +109,9 @@ pub extern "C" fn maldjupp_stroke_rrect(
     width: f32,
     color: Color,
 ) -> Counted
-    ensures { λ d. ⌜ ShapeCalled (shapeNumber canvas (length (now (px .entry))) (strokeOk rect r width)) canvas (now (px .entry)) (drawn (canvas .pitch) (canvas .clip) (strokeReach rect color) (strokeInk rect r width color) (now (px .entry))) d (now (px .exit)) ⌝ }
+    ensures { λ d. ⌜ ShapeCalled (shapeNumber canvas (length (now (px .entry))) (strokeOk rect r width)) canvas (now (px .entry))
+        (drawn (canvas .pitch) (canvas .clip) (strokeReach rect color) (strokeInk rect r width color) (now (px .entry))) d
+        (now (px .exit)) ⌝ }
 {
     stroke_rrect(canvas, px, rect, r, width, color)
 }
@@ -124,7 +127,9 @@ pub extern "C" fn maldjupp_ring(
     width: f32,
     color: Color,
 ) -> Counted
-    ensures { λ d. ⌜ ShapeCalled (shapeNumber canvas (length (now (px .entry))) (ringOk cx cy r width)) canvas (now (px .entry)) (drawn (canvas .pitch) (canvas .clip) (strokeReach (circleRect cx cy r) color) (strokeInk (circleRect cx cy r) r width color) (now (px .entry))) d (now (px .exit)) ⌝ }
+    ensures { λ d. ⌜ ShapeCalled (shapeNumber canvas (length (now (px .entry))) (ringOk cx cy r width)) canvas (now (px .entry))
+        (drawn (canvas .pitch) (canvas .clip) (strokeReach (circleRect cx cy r) color)
+        (strokeInk (circleRect cx cy r) r width color) (now (px .entry))) d (now (px .exit)) ⌝ }
 {
     ring(canvas, px, cx, cy, r, width, color)
 }
@@ -139,7 +144,9 @@ pub extern "C" fn maldjupp_line(
     width: f32,
     color: Color,
 ) -> Counted
-    ensures { λ r. ⌜ ShapeCalled (shapeNumber canvas (length (now (px .entry))) (lineOk a b width)) canvas (now (px .entry)) (drawn (canvas .pitch) (canvas .clip) (lineReach a b width) (lineInk a b width color) (now (px .entry))) r (now (px .exit)) ⌝ }
+    ensures { λ r. ⌜ ShapeCalled (shapeNumber canvas (length (now (px .entry))) (lineOk a b width)) canvas (now (px .entry))
+        (drawn (canvas .pitch) (canvas .clip) (lineReach a b width) (lineInk a b width color) (now (px .entry))) r
+        (now (px .exit)) ⌝ }
 {
     line(canvas, px, a, b, width, color)
 }
@@ -153,7 +160,9 @@ pub extern "C" fn maldjupp_polyline(
     width: f32,
     color: Color,
 ) -> Counted
-    ensures { λ r. ⌜ CalledCounted (pointsNumber canvas (length (now (px .entry))) (now (pts .entry)) (floatOk width)) canvas (now (px .entry)) (polylined (canvas .pitch) (canvas .clip) (now (pts .entry)) width color (now (px .entry))) (polylineSteps (canvas .pitch) (canvas .clip) (now (pts .entry)) width color (now (px .entry))) r (now (px .exit)) ⌝ }
+    ensures { λ r. ⌜ CalledCounted (pointsNumber canvas (length (now (px .entry))) (now (pts .entry)) (floatOk width)) canvas
+        (now (px .entry)) (polylined (canvas .pitch) (canvas .clip) (now (pts .entry)) width color (now (px .entry)))
+        (polylineSteps (canvas .pitch) (canvas .clip) (now (pts .entry)) width color (now (px .entry))) r (now (px .exit)) ⌝ }
 {
     polyline(canvas, px, pts, width, color)
 }
@@ -167,7 +176,9 @@ pub extern "C" fn maldjupp_fill_poly(
     brush: Brush,
     scratch: &mut [f32],
 ) -> Counted
-    ensures { λ r. ⌜ Filled (pointsBrushNumber canvas (length (now (px .entry))) (now (pts .entry)) brush (length (now (scratch .entry)))) canvas (now (px .entry)) (now (pts .entry)) (paintOf brush) (now (scratch .entry)) r (now (px .exit)) (now (scratch .exit)) ⌝ }
+    ensures { λ r. ⌜ Filled (pointsBrushNumber canvas (length (now (px .entry))) (now (pts .entry)) brush
+        (length (now (scratch .entry)))) canvas (now (px .entry)) (now (pts .entry)) (paintOf brush) (now (scratch .entry)) r
+        (now (px .exit)) (now (scratch .exit)) ⌝ }
 {
     if brush.kind > 3 {
         let number = points_kind_number(canvas, px.len(), pts);
@@ -191,7 +202,9 @@ pub extern "C" fn maldjupp_shadow_rrect(
     color: Color,
     skip: u32,
 ) -> Counted
-    ensures { λ d. ⌜ ShapeCalled (skipNumber canvas (length (now (px .entry))) skip (shadowOk rect r blur)) canvas (now (px .entry)) (drawn (canvas .pitch) (canvas .clip) (shadowReach rect blur color) (shadowInk rect r blur color (skipOf skip)) (now (px .entry))) d (now (px .exit)) ⌝ }
+    ensures { λ d. ⌜ ShapeCalled (skipNumber canvas (length (now (px .entry))) skip (shadowOk rect r blur)) canvas
+        (now (px .entry)) (drawn (canvas .pitch) (canvas .clip) (shadowReach rect blur color)
+        (shadowInk rect r blur color (skipOf skip)) (now (px .entry))) d (now (px .exit)) ⌝ }
 {
     if skip > 1 {
         let number = five_number(canvas, px.len());

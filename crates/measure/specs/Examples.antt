@@ -40,7 +40,8 @@ two = 0 ∷ 0 ∷ 0 ∷ 64 ∷ []
 abbrev four : List ℕ
 four = 0 ∷ 0 ∷ 128 ∷ 64 ∷ []
 
--- a push of columns 1 and 2, a pop, a red fill of the whole canvas, a red polygon of the points (0, 0), (2, 0) and (2, 2), an unknown kind
+-- a push of columns 1 and 2, a pop, a red fill of the whole canvas, a red polygon of the points (0, 0), (2, 0) and (2, 2), an
+-- unknown kind
 abbrev push : List ℕ
 push = 1 ∷ 0 ∷ 0 ∷ 0 ∷ one ++ none ++ two ++ two
 
@@ -76,15 +77,26 @@ pub rooms :
     -- refused: 11 bytes; an unknown kind as second item
     × (measuring format (replicate 11 0) ≡ room 1 0 0 0 0)
     × (measured (polygon ∷ unknown ∷ []) ≡ room 4 2 0 0 0)
-unfolding pairs joined encoded measuring roomOf deepest met metAll sumTo meets inside steps withStep after popped reading sheetCheck checks.itemsFrom numberAt depthAt headNumber headerOk pairsOk pairsFrom itemNumber savedOk floatsOk paintFloatsOk bytesOk paintBytesOk kinds.pointsOk lengthOk layoutAt allAt floatOk itemsFrom drawnAs readItem readPaint coordsFrom reachOf needOf itemNeed needs canvas empty meet maxZ minZ noBox fillReach noArea outerOf needIn reachIn polyOk pointsOk coordsOk polyReach polyNeed painted polyBox spanOf originOf extentOf floorOf ceilOf ofBits round add sub mul ofInt lt le eq ne neg toSigned toUnsigned
+unfolding pairs joined encoded measuring roomOf deepest met metAll sumTo meets inside steps withStep after popped reading
+    sheetCheck checks.itemsFrom numberAt depthAt headNumber headerOk pairsOk pairsFrom itemNumber savedOk floatsOk paintFloatsOk
+    bytesOk paintBytesOk kinds.pointsOk lengthOk layoutAt allAt floatOk itemsFrom drawnAs readItem readPaint coordsFrom reachOf
+    needOf itemNeed needs canvas empty meet maxZ minZ noBox fillReach noArea outerOf needIn reachIn polyOk pointsOk coordsOk
+    polyReach polyNeed painted polyBox spanOf originOf extentOf floorOf ceilOf ofBits round add sub mul ofInt lt le eq ne neg
+    toSigned toUnsigned
 rooms = (refl, refl, refl, refl, refl, refl, refl)
 
 -- with the words told the polygon is painted, with one fewer not
 pub lends :
-    (painting format (sheet (polygon ∷ [])) 4 8 26 ≡ draws (sheetOf (sheet (polygon ∷ []))) (canvas (sheetOf (sheet (polygon ∷ [])))))
+    (painting format (sheet (polygon ∷ [])) 4 8 26
+    ≡ draws (sheetOf (sheet (polygon ∷ []))) (canvas (sheetOf (sheet (polygon ∷ [])))))
     × (painting format (sheet (polygon ∷ [])) 4 8 25 ≡ refuses 9 0)
     -- and in longer rows
-    × (painting format (sheet (polygon ∷ [])) 9 18 26 ≡ draws (sheetOf (sheet (polygon ∷ []))) (canvas (sheetOf (sheet (polygon ∷ [])))))
+    × (painting format (sheet (polygon ∷ [])) 9 18 26
+    ≡ draws (sheetOf (sheet (polygon ∷ []))) (canvas (sheetOf (sheet (polygon ∷ [])))))
     × (painting format (sheet (polygon ∷ [])) 9 18 25 ≡ refuses 9 0)
-unfolding pairs joined encoded painting paintOf lent lentNumber drawsUnless frameNumber pitchNumber pitchOk reading sheetCheck checks.itemsFrom numberAt depthAt headNumber headerOk pairsOk pairsFrom itemNumber savedOk floatsOk paintFloatsOk bytesOk paintBytesOk kinds.pointsOk lengthOk layoutAt allAt floatOk itemsFrom drawnAs readItem readPaint coordsFrom needOf itemNeed needs canvas needIn polyOk pointsOk coordsOk polyNeed painted polyBox spanOf originOf extentOf floorOf ceilOf ofBits round add sub mul ofInt lt le eq ne neg toSigned toUnsigned
+unfolding pairs joined encoded painting paintOf lent lentNumber drawsUnless frameNumber pitchNumber pitchOk reading sheetCheck
+    checks.itemsFrom numberAt depthAt headNumber headerOk pairsOk pairsFrom itemNumber savedOk floatsOk paintFloatsOk bytesOk
+    paintBytesOk kinds.pointsOk lengthOk layoutAt allAt floatOk itemsFrom drawnAs readItem readPaint coordsFrom needOf itemNeed
+    needs canvas needIn polyOk pointsOk coordsOk polyNeed painted polyBox spanOf originOf extentOf floorOf ceilOf ofBits round add
+    sub mul ofInt lt le eq ne neg toSigned toUnsigned
 lends = (refl, refl, refl, refl)

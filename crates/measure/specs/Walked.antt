@@ -1,4 +1,4 @@
--- What the walk over a sheet's items tells. Assumes nothing.
+-- What the walk over a sheet's items tells. No call of the library cites this file: the loop of the walk does. Assumes nothing.
 use Prim.Native.Nat.{ℕ, _*_, _-_, _≤_}
 use mathlib.Core.List.{List}
 use mathlib.Core.Path.{_≡_}

@@ -39,8 +39,11 @@ pub record Every : Type 0 where
   -- "each appears exactly once": every order of up to 6 items has a number, and no two numbers have the same sheet
   pub all : (o : List ℕ) → Order o → length o ≤ 6 → Numbered o
   pub once : (j k : ℕ) → j < 1093 → k < 1093 → orderSheet j ≡ orderSheet k → j ≡ k
-  -- "Sheets of fewer items come first, and among those of equal count push stands before pop before fill, the first item weighing most"
+  -- "Sheets of fewer items come first, and among those of equal count push stands before pop before fill, the first item weighing
+  -- most"
   pub ordered : (j k : ℕ) → j < k → k < 1093 → Before (orderAt j) (orderAt k)
-  -- "each is accepted by painting": it passes every check of a sheet, and is painted in 4 rows of any pitch whatever the scratch, also with none
+  -- "each is accepted by painting": it passes every check of a sheet, and is painted in 4 rows of any pitch whatever the scratch,
+  -- also with none
   pub checked : (k : ℕ) → k < 1093 → sheetCheck (orderSheet k) ≡ verdict 0 0
-  pub painted : (k pitch words : ℕ) → k < 1093 → pitchOk 4 pitch ≡ true → accepted (painting format (orderSheet k) pitch (pitch * 4) words) ≡ true
+  pub painted : (k pitch words : ℕ) → k < 1093 → pitchOk 4 pitch ≡ true
+      → accepted (painting format (orderSheet k) pitch (pitch * 4) words) ≡ true

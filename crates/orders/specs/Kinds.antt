@@ -1,5 +1,5 @@
--- The kinds of a number's order, as the code works them out: the number written with the digits 1, 2 and 3 to base 3. Only the code's own
--- functions cite this. Assumes nothing.
+-- The kinds of a number's order, as the code works them out: the number written with the digits 1, 2 and 3 to base 3. Only the
+-- code's own functions cite this. Assumes nothing.
 use Prim.Native.Nat.{ℕ, zero, suc, _+_, _-_, _/_, _%_}
 use mathlib.Core.Bool.{cond}
 use mathlib.Core.List.{List, [], _∷_, _++_}

@@ -1,5 +1,5 @@
--- Every small clip order (request 2026-14): the sheets of 0 to 6 items on a black canvas of 4 by 4, each item a push of (1, 1, 2, 2), a pop or
--- an opaque white fill of (0, 0, 3, 3) with r 0. Assumes nothing.
+-- Every small clip order (request 2026-14): the sheets of 0 to 6 items on a black canvas of 4 by 4, each item a push of (1, 1, 2,
+-- 2), a pop or an opaque white fill of (0, 0, 3, 3) with r 0. Assumes nothing.
 use Prim.Native.Nat.{ℕ, zero, suc}
 use mathlib.Core.List.{List, [], _∷_, _++_, map}
 use lib.Dec.{ltb}

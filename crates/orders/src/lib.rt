@@ -1,5 +1,5 @@
-// Every small clip order: the sheets of 0 to 6 items on a black canvas of 4 by 4, each item a push, a pop or a fill, by number. An order
-// is worked with as the kinds of its items.
+// Every small clip order: the sheets of 0 to 6 items on a black canvas of 4 by 4, each item a push, a pop or a fill, by number.
+// An order is worked with as the kinds of its items.
 use encode::Written;
 use encode::put;
 use encode::put_pair;
@@ -13,8 +13,8 @@ ghost use Rattle.encode.specs.Placed.{placed};
 ghost use Rattle.orders.specs.Orders.{item, head, asSheet, orderNumber, orderSheet};
 ghost use Rattle.orders.specs.Kinds.{kindsIn};
 
-// The kinds of the order of a number: the number is written with the digits 1, 2 and 3 to base 3, the last digit first, into the end of the
-// six places lent, and the place of its first digit is returned.
+// The kinds of the order of a number: the number is written with the digits 1, 2 and 3 to base 3, the last digit first, into the
+// end of the six places lent, and the place of its first digit is returned.
 fn kinds_of(number: usize, kinds: &mut [u8]) -> usize
     requires { ⌜ (number ≤ 1092) × (length (now kinds) ≡ 6) ⌝ }
     ensures { λ r. ⌜ (drop r (now (kinds .exit)) ≡ kindsIn 6 number) × (r ≤ 6) ⌝ }
@@ -82,7 +82,8 @@ fn put_header(buf: &mut [u8], count: usize)
 // The pairs of its items.
 fn put_pairs(buf: &mut [u8], kinds: &[u8])
     requires { ⌜ (length (now kinds) ≤ 6) × (12 + 4 * length (now kinds) ≤ length (now buf)) ⌝ }
-    ensures { λ _. ⌜ now (buf .exit) ≡ placed 12 (pairs (12 + 4 * length (now (kinds .entry))) (map item (now (kinds .entry)))) (now (buf .entry)) ⌝ }
+    ensures { λ _. ⌜ now (buf .exit) ≡ placed 12 (pairs (12 + 4 * length (now (kinds .entry))) (map item (now (kinds .entry))))
+        (now (buf .entry)) ⌝ }
 {
     let mut at = 12 + 4 * kinds.len();
     for i in 0..kinds.len() {
@@ -94,8 +95,10 @@ fn put_pairs(buf: &mut [u8], kinds: &[u8])
 
 // Its items.
 fn put_items(buf: &mut [u8], kinds: &[u8])
-    requires { ⌜ (length (now kinds) ≤ 6) × (12 + 4 * length (now kinds) + length (joined (map item (now kinds))) ≤ length (now buf)) ⌝ }
-    ensures { λ _. ⌜ now (buf .exit) ≡ placed (12 + 4 * length (now (kinds .entry))) (joined (map item (now (kinds .entry)))) (now (buf .entry)) ⌝ }
+    requires { ⌜ (length (now kinds) ≤ 6) × (12 + 4 * length (now kinds) + length (joined (map item (now kinds))) ≤ length
+        (now buf)) ⌝ }
+    ensures { λ _. ⌜ now (buf .exit) ≡ placed (12 + 4 * length (now (kinds .entry))) (joined (map item (now (kinds .entry))))
+        (now (buf .entry)) ⌝ }
 {
     let mut at = 12 + 4 * kinds.len();
     for i in 0..kinds.len() {
@@ -117,7 +120,8 @@ fn put_sheet(buf: &mut [u8], kinds: &[u8])
 // The same, or 19.
 fn write_sheet(buf: &mut [u8], kinds: &[u8]) -> Written
     requires { ⌜ length (now kinds) ≤ 6 ⌝ }
-    ensures { λ r. ⌜ Wrote (fitNumber (asSheet (now (kinds .entry))) (length (now (buf .entry)))) 0 (asSheet (now (kinds .entry))) (now (buf .entry)) r (now (buf .exit)) ⌝ }
+    ensures { λ r. ⌜ Wrote (fitNumber (asSheet (now (kinds .entry))) (length (now (buf .entry)))) 0 (asSheet (now (kinds .entry)))
+        (now (buf .entry)) r (now (buf .exit)) ⌝ }
 {
     let len = sheet_len(kinds);
     if buf.len() < len {
@@ -133,7 +137,8 @@ fn write_sheet(buf: &mut [u8], kinds: &[u8]) -> Written
 
 // Writes the sheet of a number, from 0: 23 for a number of 1,093 or more, 19 for a buffer in which it does not fit.
 pub fn clip_order(number: usize, buf: &mut [u8]) -> Written
-    ensures { λ r. ⌜ Wrote (orderNumber number (length (now (buf .entry)))) 0 (orderSheet number) (now (buf .entry)) r (now (buf .exit)) ⌝ }
+    ensures { λ r. ⌜ Wrote (orderNumber number (length (now (buf .entry)))) 0 (orderSheet number) (now (buf .entry)) r
+        (now (buf .exit)) ⌝ }
 {
     if 1093 <= number {
         return refused(23, 0);

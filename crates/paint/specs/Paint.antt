@@ -1,4 +1,5 @@
--- What painting and patching share: the need of a sheet, and drawing in an area. Assumes nothing.
+-- What painting and patching share: the need of a sheet, and drawing in an area. No call of the library cites this file:
+-- `sheet_need` and `draw_in`, which both call, do. Assumes nothing.
 use Prim.Native.Nat.{ℕ}
 use mathlib.Core.List.{List}
 use mathlib.Core.Path.{_≡_}
@@ -36,7 +37,8 @@ groundedIn s pitch area px =
 abbrev pub firstStage : List ℕ → ℕ → IRect → List ℕ → List Float → Stage
 firstStage s pitch area px scratch = stage (stateOf s pitch area) (groundedIn s pitch area px) scratch
 
-pub record DrewSheet (s : List ℕ) (pitch : ℕ) (area : IRect) (px : List ℕ) (scratch : List Float) (r : Reply) (px′ : List ℕ) (scratch′ : List Float) : Type 0 where
+pub record DrewSheet (s : List ℕ) (pitch : ℕ) (area : IRect) (px : List ℕ) (scratch : List Float) (r : Reply) (px′ : List ℕ)
+    (scratch′ : List Float) : Type 0 where
   pub answers : r .answer ≡ record { number = 0; item = 0; area = area }
   pub grounds : r .grounded ≡ differ px (groundedIn s pitch area px)
   pub leaves : let all = stagesFrom s (countOf s) 0 (firstStage s pitch area px scratch) in

@@ -69,7 +69,8 @@ pub fn lent_number(s: &[u8], pitch: usize, n: usize, words: usize) -> u32
 
 // Sets an area to the ground, and draws the sheet with the area as first clip: the reply of an accepted call.
 pub fn draw_in(s: &[u8], pitch: usize, area: IRect, px: &mut [u32], scratch: &mut [f32]) -> Reply
-    ensures { λ r. ⌜ DrewSheet (now (s .entry)) pitch area (now (px .entry)) (now (scratch .entry)) r (now (px .exit)) (now (scratch .exit)) ⌝ }
+    ensures { λ r. ⌜ DrewSheet (now (s .entry)) pitch area (now (px .entry)) (now (scratch .entry)) r (now (px .exit))
+        (now (scratch .exit)) ⌝ }
 {
     let state = first_state(s, pitch, area);
     let grounded = fill_ground(state, px, ground(s)).steps;
@@ -86,9 +87,11 @@ pub fn draw_in(s: &[u8], pitch: usize, area: IRect, px: &mut [u32], scratch: &mu
     }
 }
 
-// Paints a sheet: every pixel the ground, then its items in their order. The pixel in column x and row y is the word y × pitch + x of px.
+// Paints a sheet: every pixel the ground, then its items in their order. The pixel in column x and row y is the word y × pitch +
+// x of px.
 pub fn paint(sheet: &[u8], pitch: usize, px: &mut [u32], scratch: &mut [f32]) -> Reply
-    ensures { λ r. ⌜ Painted zeroWord format (now (sheet .entry)) pitch (now (px .entry)) (now (scratch .entry)) r (now (px .exit)) (now (scratch .exit)) ⌝ }
+    ensures { λ r. ⌜ Painted zeroWord format (now (sheet .entry)) pitch (now (px .entry)) (now (scratch .entry)) r
+        (now (px .exit)) (now (scratch .exit)) ⌝ }
 {
     let v = check_sheet(sheet);
     let number = v.number;

@@ -12,7 +12,8 @@ ghost use mathlib.Core.Path.{_≡_};
 ghost use mathlib.Core.Bool.{_&&_};
 ghost use Rattle.geom.specs.Plane.{floatOk, ptOk};
 ghost use Rattle.mathf.specs.F32.{_<ᶠ_, f0};
-ghost use Rattle.paints.specs.Paints.{alongDown, alongLine, alongRadius, paintAt, rowPaint, paintOk, centreOf, radiusOf, cornerSd, rrectSd, roundedOf, roundedSd, cov8Of};
+ghost use Rattle.paints.specs.Paints.{alongDown, alongLine, alongRadius, paintAt, rowPaint, paintOk, centreOf, radiusOf};
+ghost use Rattle.paints.specs.Paints.{cornerSd, rrectSd, roundedOf, roundedSd, cov8Of};
 
 // What a shape is filled with.
 pub enum Paint {

@@ -13,7 +13,8 @@ ghost use Rattle.patch.specs.Patch.{BothRead};
 // A patch between two sheets that were accepted: 10, 14, 15, 8, 9, or drawn.
 fn patch_read(old: &[u8], new: &[u8], pitch: usize, px: &mut [u32], scratch: &mut [f32]) -> Reply
     requires { ⌜ BothRead (now old) (now new) ⌝ }
-    ensures { λ r. ⌜ Patched zeroWord format (now (old .entry)) (now (new .entry)) pitch (now (px .entry)) (now (scratch .entry)) r (now (px .exit)) (now (scratch .exit)) ⌝ }
+    ensures { λ r. ⌜ Patched zeroWord format (now (old .entry)) (now (new .entry)) pitch (now (px .entry)) (now (scratch .entry))
+        r (now (px .exit)) (now (scratch .exit)) ⌝ }
 {
     if !same_header(old, new) {
         return refusal(10, 0);
@@ -32,7 +33,8 @@ fn patch_read(old: &[u8], new: &[u8], pitch: usize, px: &mut [u32], scratch: &mu
 
 // Patches px, which shows the old sheet, to the new one.
 pub fn patch(old: &[u8], new: &[u8], pitch: usize, px: &mut [u32], scratch: &mut [f32]) -> Reply
-    ensures { λ r. ⌜ Patched zeroWord format (now (old .entry)) (now (new .entry)) pitch (now (px .entry)) (now (scratch .entry)) r (now (px .exit)) (now (scratch .exit)) ⌝ }
+    ensures { λ r. ⌜ Patched zeroWord format (now (old .entry)) (now (new .entry)) pitch (now (px .entry)) (now (scratch .entry))
+        r (now (px .exit)) (now (scratch .exit)) ⌝ }
 {
     let a = check_sheet(old);
     let first = a.number;

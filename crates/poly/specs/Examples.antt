@@ -8,7 +8,8 @@ use Rattle.mathf.specs.F32.{f0, f½, f1, f1½}
 use Rattle.mathf.specs.Whole.{floorOf, ceilOf}
 use Rattle.geom.specs.Box.{boxOf}
 use Rattle.accum.specs.Accum.{bumpRun, shortRow, midRow, innerRow, wideRow, rowAccum}
-use Rattle.accum.specs.Lines.{rowBetween, rowHeight, rowNext, edgeX, edgeRow, edgeRows, startX, edgeDown, edgeOf, firstRow, endRow, lineAccum}
+use Rattle.accum.specs.Lines.{rowBetween, rowHeight, rowNext, edgeX, edgeRow, edgeRows, startX, edgeDown, edgeOf, firstRow}
+use Rattle.accum.specs.Lines.{endRow, lineAccum}
 use Rattle.bounds.specs.Bounds.{extentOf, originOf, spanOf, polyBox, painted}
 use Rattle.poly.specs.Poly.{polyReach, polyNeed, pointFrom, edgesAccum, accumulated, runSum, areaAt, coverOf}
 
@@ -31,5 +32,7 @@ covered x = coverOf (areaAt (accumulated square (polyBox square)) (polyBox squar
 
 -- half of the first two pixels, and nothing of the third
 pub square-cover : (covered 0 ≡ 128) × (covered 1 ≡ 128) × (covered 2 ≡ 0)
-unfolding coverOf areaAt runSum accumulated edgesAccum pointFrom lineAccum edgeOf edgeDown startX firstRow endRow edgeRows edgeRow edgeX rowNext rowHeight rowBetween rowAccum shortRow wideRow innerRow midRow bumpRun polyBox spanOf originOf extentOf floorOf ceilOf toSigned toUnsigned add sub mul div lt ne eq neg ofBits ofInt round
+unfolding coverOf areaAt runSum accumulated edgesAccum pointFrom lineAccum edgeOf edgeDown startX firstRow endRow edgeRows edgeRow
+    edgeX rowNext rowHeight rowBetween rowAccum shortRow wideRow innerRow midRow bumpRun polyBox spanOf originOf extentOf floorOf
+    ceilOf toSigned toUnsigned add sub mul div lt ne eq neg ofBits ofInt round
 square-cover = (refl, refl, refl)

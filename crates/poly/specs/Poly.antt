@@ -89,7 +89,8 @@ unfoldable pub polyNumber : Canvas → ℕ → List Float → Paint → ℕ → 
 polyNumber c n pts paint words = andThen (pointsNumber c n pts (paintOk paint)) (unless (leb (polyNeed pts) words) 9 0)
 
 -- what `fill_poly` promises of number, state, px and the count of its steps, and of the scratch, which a refused call leaves
-pub record Filled (n : ℕ) (c : Canvas) (px : List ℕ) (pts : List Float) (paint : Paint) (scratch : List Float) (r : Counted) (px′ : List ℕ) (scratch′ : List Float) : Type 0 where
+pub record Filled (n : ℕ) (c : Canvas) (px : List ℕ) (pts : List Float) (paint : Paint) (scratch : List Float) (r : Counted)
+    (px′ : List ℕ) (scratch′ : List Float) : Type 0 where
   pub called : ShapeCalled n c px (drawn (c .pitch) (c .clip) (polyReach pts) (polyInk pts paint) px) r px′
   pub clears : scratch′ ≡ cond (eqb n 0) (cleared (polyNeed pts) scratch) scratch
 

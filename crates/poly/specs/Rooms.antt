@@ -14,7 +14,8 @@ use Rattle.poly.specs.Poly.{offsetOf, runSum, coverOf}
 
 -- a pixel by the words of its row, which starts at ls: column x0 is the one after `skip`
 unfoldable pub inkFrom : List Float → ℕ → ℕ → ℕ → Paint → ℕ → ℕ → ℕ → ℕ
-inkFrom acc ls skip x0 paint x y p = overC p (paintAt paint (centreOf x) (centreOf y)) (coverOf (runSum acc ls (skip + (x - x0) + 1)))
+inkFrom acc ls skip x0 paint x y p = overC p (paintAt paint (centreOf x) (centreOf y))
+    (coverOf (runSum acc ls (skip + (x - x0) + 1)))
 
 -- columns or rows from a up to b of the canvas lie in a box's, which start at the origin
 pub record Over (origin : ℤ) (span a b : ℕ) : Type 0 where

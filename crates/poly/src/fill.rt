@@ -37,7 +37,8 @@ fn fill_part(
 ) -> u32
     requires { ⌜ AreaFits pitch (clipTo (reachOf g) clip) (length (now px)) ⌝ }
     requires { ⌜ Near g × (length (now acc) ≡ needOf g) × (length (now pts) ≤ 128) ⌝ }
-    ensures { λ n. ⌜ DrewIn pitch (clipTo (reachOf g) clip) (inkIn (accumulated (now (pts .entry)) g) g paint) (now (px .entry)) n (now (px .exit)) ⌝ }
+    ensures { λ n. ⌜ DrewIn pitch (clipTo (reachOf g) clip) (inkIn (accumulated (now (pts .entry)) g) g paint) (now (px .entry)) n
+        (now (px .exit)) ⌝ }
     ensures { λ _. ⌜ now (acc .exit) ≡ replicate (needOf g) f0 ⌝ }
 {
     accumulate(acc, pts, g);
@@ -59,8 +60,12 @@ pub(crate) fn fill_lent(
     requires { ⌜ AreaFits pitch (clipTo (polyReach (now pts)) clip) (length (now px)) ⌝ }
     requires { ⌜ (length (now pts) ≤ 128) × (coordsOk (now pts) ≡ true) ⌝ }
     ensures { λ r. ⌜ r .number ≡ unless (leb (polyNeed (now (pts .entry))) (length (now (scratch .entry)))) 9 0 ⌝ }
-    ensures { λ r. ⌜ Drew 4194304 (now (px .entry)) (cond (leb (polyNeed (now (pts .entry))) (length (now (scratch .entry)))) (drawnIn pitch (clipTo (polyReach (now (pts .entry))) clip) (polyInk (now (pts .entry)) paint) (now (px .entry))) (now (px .entry))) (r .steps) (now (px .exit)) ⌝ }
-    ensures { λ _. ⌜ now (scratch .exit) ≡ cond (leb (polyNeed (now (pts .entry))) (length (now (scratch .entry)))) (cleared (polyNeed (now (pts .entry))) (now (scratch .entry))) (now (scratch .entry)) ⌝ }
+    ensures { λ r. ⌜ Drew 4194304 (now (px .entry))
+        (cond (leb (polyNeed (now (pts .entry))) (length (now (scratch .entry))))
+        (drawnIn pitch (clipTo (polyReach (now (pts .entry))) clip) (polyInk (now (pts .entry)) paint) (now (px .entry)))
+        (now (px .entry))) (r .steps) (now (px .exit)) ⌝ }
+    ensures { λ _. ⌜ now (scratch .exit) ≡ cond (leb (polyNeed (now (pts .entry))) (length (now (scratch .entry))))
+        (cleared (polyNeed (now (pts .entry))) (now (scratch .entry))) (now (scratch .entry)) ⌝ }
 {
     let plan = plan_of(pts);
     let n = plan.need;

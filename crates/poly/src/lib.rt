@@ -54,7 +54,9 @@ pub fn fill_poly(
     paint: Paint,
     scratch: &mut [f32],
 ) -> Counted
-    ensures { λ r. ⌜ Filled (polyNumber canvas (length (now (px .entry))) (now (pts .entry)) paint (length (now (scratch .entry)))) canvas (now (px .entry)) (now (pts .entry)) paint (now (scratch .entry)) r (now (px .exit)) (now (scratch .exit)) ⌝ }
+    ensures { λ r. ⌜ Filled (polyNumber canvas (length (now (px .entry))) (now (pts .entry)) paint
+        (length (now (scratch .entry)))) canvas (now (px .entry)) (now (pts .entry)) paint (now (scratch .entry)) r
+        (now (px .exit)) (now (scratch .exit)) ⌝ }
 {
     let number = points_number(canvas, px.len(), pts, paint.in_range());
     if number != 0 {

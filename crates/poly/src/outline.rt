@@ -46,7 +46,8 @@ fn next_point(i: usize, n: usize) -> usize
 fn edge_between(acc: &mut [f32], pts: &[f32], g: PolyBox, i: usize, j: usize)
     requires { ⌜ Near g × Room (g .bw) (g .bh) (length (now acc)) ⌝ }
     requires { ⌜ (i * 2 + 1 < length (now pts)) × (j * 2 + 1 < length (now pts)) ⌝ }
-    ensures { λ _. ⌜ now (acc .exit) ≡ lineAccum (now (acc .entry)) (g .bw) (g .bh) (pointFrom (now (pts .entry)) g i) (pointFrom (now (pts .entry)) g j) ⌝ }
+    ensures { λ _. ⌜ now (acc .exit) ≡ lineAccum (now (acc .entry)) (g .bw) (g .bh) (pointFrom (now (pts .entry)) g i)
+        (pointFrom (now (pts .entry)) g j) ⌝ }
 {
     let p0 = point_from(pts, g, i);
     let p1 = point_from(pts, g, j);

@@ -126,7 +126,8 @@ fn line_row(
 ) -> u32
     requires { ⌜ RowFits pitch y x0 x1 (length (now px)) ⌝ }
     requires { ⌜ ls + (skip + (x1 - x0)) ≤ length (now acc) ⌝ }
-    ensures { λ n. ⌜ DrewRow pitch y x0 x1 (inkFrom (now (acc .entry)) ls skip x0 (Linear p0 p1 c0 c1)) (now (px .entry)) n (now (px .exit)) ⌝ }
+    ensures { λ n. ⌜ DrewRow pitch y x0 x1 (inkFrom (now (acc .entry)) ls skip x0 (Linear p0 p1 c0 c1)) (now (px .entry)) n
+        (now (px .exit)) ⌝ }
 {
     let row = y * pitch;
     let mut a = run_sum(acc, ls, skip);
@@ -159,7 +160,8 @@ fn flat_row(
 ) -> u32
     requires { ⌜ RowFits pitch y x0 x1 (length (now px)) ⌝ }
     requires { ⌜ ls + (skip + (x1 - x0)) ≤ length (now acc) ⌝ }
-    ensures { λ n. ⌜ DrewRow pitch y x0 x1 (inkFrom (now (acc .entry)) ls skip x0 (Solid c)) (now (px .entry)) n (now (px .exit)) ⌝ }
+    ensures { λ n. ⌜ DrewRow pitch y x0 x1 (inkFrom (now (acc .entry)) ls skip x0 (Solid c)) (now (px .entry)) n (now (px .exit))
+        ⌝ }
 {
     let row = y * pitch;
     let mut a = run_sum(acc, ls, skip);
@@ -215,7 +217,8 @@ fn poly_row(
     paint: Paint,
 ) -> u32
     requires { ⌜ RowFits pitch y x0 x1 (length (now px)) ⌝ }
-    requires { ⌜ Room (g .bw) (g .bh) (length (now acc)) × Near g × Over (g .ox) (g .bw) x0 x1 × Over (g .oy) (g .bh) y (y + 1) ⌝ }
+    requires { ⌜ Room (g .bw) (g .bh) (length (now acc)) × Near g × Over (g .ox) (g .bw) x0 x1
+        × Over (g .oy) (g .bh) y (y + 1) ⌝ }
     ensures { λ n. ⌜ DrewRow pitch y x0 x1 (inkIn (now (acc .entry)) g paint) (now (px .entry)) n (now (px .exit)) ⌝ }
 {
     let ox = g.ox;
@@ -230,7 +233,8 @@ fn poly_row(
 // The rows of an area.
 fn poly_rows(px: &mut [u32], acc: &[f32], pitch: usize, bb: Area, g: PolyBox, paint: Paint) -> u32
     requires { ⌜ AreaFits pitch bb (length (now px)) ⌝ }
-    requires { ⌜ Room (g .bw) (g .bh) (length (now acc)) × Near g × Over (g .ox) (g .bw) (bb .x0) (bb .x1) × Over (g .oy) (g .bh) (bb .y0) (bb .y1) ⌝ }
+    requires { ⌜ Room (g .bw) (g .bh) (length (now acc)) × Near g × Over (g .ox) (g .bw) (bb .x0) (bb .x1)
+        × Over (g .oy) (g .bh) (bb .y0) (bb .y1) ⌝ }
     ensures { λ n. ⌜ DrewIn pitch bb (inkIn (now (acc .entry)) g paint) (now (px .entry)) n (now (px .exit)) ⌝ }
 {
     let x0 = bb.x0;
@@ -255,7 +259,8 @@ pub(crate) fn draw_box(
 ) -> u32
     requires { ⌜ AreaFits pitch (clipTo (reachOf g) clip) (length (now px)) ⌝ }
     requires { ⌜ Room (g .bw) (g .bh) (length (now acc)) × Near g ⌝ }
-    ensures { λ n. ⌜ DrewIn pitch (clipTo (reachOf g) clip) (inkIn (now (acc .entry)) g paint) (now (px .entry)) n (now (px .exit)) ⌝ }
+    ensures { λ n. ⌜ DrewIn pitch (clipTo (reachOf g) clip) (inkIn (now (acc .entry)) g paint) (now (px .entry)) n
+        (now (px .exit)) ⌝ }
 {
     let bb = clipped(reach_of(g), clip);
     let x0 = bb.x0;

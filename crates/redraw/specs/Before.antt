@@ -1,5 +1,5 @@
--- SMALLER BOXES UNDER A CLIP (document 02, 2026-09): patching and its ceiling by the rule of before, which knew whole reaches alone, and what is
--- claimed of it. Proved in proofs/Cuts; no call cites it.
+-- SMALLER BOXES UNDER A CLIP (document 02, 2026-09): patching and its ceiling by the rule of before, which knew whole reaches
+-- alone, and what is claimed of it. Proved in proofs/Cuts; no call cites it.
 use mathlib.Core.Bool.{cond}
 use mathlib.Core.List.{List, [], _∷_}
 use mathlib.Core.Path.{_≡_}
@@ -8,7 +8,8 @@ use Rattle.geom.specs.declared.IRect.{IRect}
 use Rattle.geom.specs.Box.{meet, empty, hull, Holds}
 use Rattle.draw.specs.Parts.{Part}
 use Rattle.redraw.specs.Drawing.{Item, push, pop, shape, Clips, Kind}
-use Rattle.redraw.specs.Sheet.{Format, Sheet, Reading, refused, read, Pair, Change, other, shapes, Outcome, refuses, draws, few, tooMany, canvas, sameHeader, lent, changeIn, patching}
+use Rattle.redraw.specs.Sheet.{Format, Sheet, Reading, refused, read, Pair, Change, other, shapes, Outcome, refuses, draws}
+use Rattle.redraw.specs.Sheet.{few, tooMany, canvas, sameHeader, lent, changeIn, patching}
 use Rattle.redraw.specs.Ceiling.{shapesMeeting}
 
 -- "shapes clipped to a narrow column still report their full reach": the boxes of the pairs, whatever their clips
@@ -61,9 +62,11 @@ module _ (K : Kind) where
   Fewer = (box : IRect) (items : List (Item (K .Shape))) (c : Clips) → shapesMeeting K box items c ≤ wholeMeeting box items
 
 module _ (F : Format) where
-  -- for any bytes, pitch and lengths of px and scratch: numbers and items stay as they were, and the box lies in the one of before
+  -- for any bytes, pitch and lengths of px and scratch: numbers and items stay as they were, and the box lies in the one of
+  -- before
   abbrev pub Smaller : Type 0
-  Smaller = (old new : List ℕ) (pitch pxLen scratchLen : ℕ) → Narrower (patching F old new pitch pxLen scratchLen) (wholePatching F old new pitch pxLen scratchLen)
+  Smaller = (old new : List ℕ) (pitch pxLen scratchLen : ℕ)
+      → Narrower (patching F old new pitch pxLen scratchLen) (wholePatching F old new pitch pxLen scratchLen)
 
   -- a new sheet without a push: all is as it was, the box too
   abbrev pub AsBefore : Type 0

@@ -1,5 +1,5 @@
--- How many steps of a sheet's shapes alter a pixel's value, shape after shape, each on what the one before left; and how many pixels the
--- ground alters.
+-- How many steps of a sheet's shapes alter a pixel's value, shape after shape, each on what the one before left; and how many
+-- pixels the ground alters.
 use mathlib.Core.List.{List, [], _∷_}
 use Prim.Native.Nat.{ℕ, _+_, _*_}
 use lib.ListN.{replicate}

@@ -51,8 +51,8 @@ steps [] c = []
 steps (i ∷ r) c = withStep i (c .clip) (steps r (after i c))
 
 -- What a kind of shape is to the theorem: a shape's reach, its box before any clip, and the value that it gives a pixel of its
--- reach, from the column, the row and the value before. One shape may blend a pixel several times: it is drawn in its parts, one after
--- the other, and takes one step a part at each pixel.
+-- reach, from the column, the row and the value before. One shape may blend a pixel several times: it is drawn in its parts, one
+-- after the other, and takes one step a part at each pixel.
 pub record Kind : Type 1 where
   pub Shape : Type 0
   pub reach : Shape → IRect

@@ -35,13 +35,14 @@ pub record Format : Type 1 where
   pub need : List (Item (kind .Shape)) → ℕ
   pub same : Item (kind .Shape) → Item (kind .Shape) → Bool
 
--- What a format has to prove: items that it calls the same are equal, a sheet has a row, no reading is refused by 0, and a shape's parts, drawn
--- one after the other, are the shape.
+-- What a format has to prove: items that it calls the same are equal, a sheet has a row, no reading is refused by 0, and a
+-- shape's parts, drawn one after the other, are the shape.
 pub record Lawful (F : Format) : Type 0 where
   pub sound : (i j : Item (F .kind .Shape)) → F .same i j ≡ true → i ≡ j
   pub tall : (sheet : List ℕ) (s : Sheet (F .kind .Shape)) → F .reading sheet ≡ read s → 1 ≤ s .h
   pub numbered : (sheet : List ℕ) (n k : ℕ) → F .reading sheet ≡ refused n k → 1 ≤ n
-  pub whole : (a : F .kind .Shape) (pitch : ℕ) (c : IRect) (px : List ℕ) → drawnAll pitch c (F .kind .parts a) px ≡ shapeOn (F .kind) pitch c a px
+  pub whole : (a : F .kind .Shape) (pitch : ℕ) (c : IRect) (px : List ℕ)
+      → drawnAll pitch c (F .kind .parts a) px ≡ shapeOn (F .kind) pitch c a px
 
 -- ---- how two lists of items differ
 
@@ -167,8 +168,8 @@ unfoldable pub accepted : {Shape : Type 0} → Outcome Shape → Bool
 accepted (refuses n k) = false
 accepted (draws s box) = true
 
--- The fresh painting of a sheet: every pixel begins with the ground, the canvas as clip and nothing saved, and the items are drawn
--- one after the other. It has w words a row: the pitch is no part of a sheet.
+-- The fresh painting of a sheet: every pixel begins with the ground, the canvas as clip and nothing saved, and the items are
+-- drawn one after the other. It has w words a row: the pitch is no part of a sheet.
 module _ (K : Kind) where
   unfoldable pub fresh : Sheet (K .Shape) → List ℕ
   fresh s = itemsOn K (s .w) (s .items) (only (canvas s)) (replicate (s .w * s .h) (s .ground))

@@ -1,5 +1,5 @@
-// The types that the definitions of specs/ speak of. There is no code here: the definitions and theorems are over any kind of shape and any
-// reading of a sheet.
+// The types that the definitions of specs/ speak of. There is no code here: the definitions and theorems are over any kind of
+// shape and any reading of a sheet.
 use geom::IRect;
 
 // What a sheet call returns: number, item and box.
@@ -18,8 +18,8 @@ pub struct Reply {
     pub grounded: u64,
 }
 
-// What a sheet takes: the scratch words that it needs, the most clips that it has saved at once, and the pixels in reach and clip together,
-// summed over its shapes; refused, number and item, and three zeros.
+// What a sheet takes: the scratch words that it needs, the most clips that it has saved at once, and the pixels in reach and clip
+// together, summed over its shapes; refused, number and item, and three zeros.
 #[repr(C)]
 pub struct Room {
     pub number: u32,

@@ -1,5 +1,6 @@
--- What the code that draws items does, item by item, for any bytes at all: the canvas calls that it makes, and what they leave. Its laws
--- (proofs/Drawing) say that for the items of an accepted sheet this is redraw's `itemsOn`. Assumes nothing.
+-- What the code that draws items does, item by item, for any bytes at all: the canvas calls that it makes, and what they leave.
+-- Its laws (proofs/Drawing) say that for the items of an accepted sheet this is redraw's `itemsOn`. No call of the library cites
+-- this file: `render`, which painting and patching share, does. Assumes nothing.
 use Prim.Native.Nat.{ℕ, zero, suc, _+_}
 use mathlib.Core.Bool.{Bool, cond}
 use mathlib.Core.List.{List}
@@ -35,31 +36,36 @@ called c ok reach ink px = left (shapeNumber c (length px) ok) px (drawn (c .pit
 unfoldable pub polyPx : List ℕ → ℕ → Paint → Canvas → List ℕ → ℕ → List ℕ
 polyPx b count paint c px words =
     let pts = pointsOf b count in
-    cond (leb count 64) (left (polyNumber c (length px) pts paint words) px (drawn (c .pitch) (c .clip) (polyReach pts) (polyInk pts paint) px)) px
+    cond (leb count 64) (left (polyNumber c (length px) pts paint words) px
+    (drawn (c .pitch) (c .clip) (polyReach pts) (polyInk pts paint) px)) px
 
 unfoldable pub polyScratch : List ℕ → ℕ → Paint → Canvas → ℕ → List Float → List Float
 polyScratch b count paint c n scratch =
     let pts = pointsOf b count in
-    cond (leb count 64) (cond (eqb (polyNumber c n pts paint (length scratch)) 0) (cleared (polyNeed pts) scratch) scratch) scratch
+    cond (leb count 64) (cond (eqb (polyNumber c n pts paint (length scratch)) 0) (cleared (polyNeed pts) scratch) scratch)
+    scratch
 
 -- px after the call for a chain of so many points: none is made for more than 64
 unfoldable pub chainPx : List ℕ → ℕ → Float → Color → Canvas → List ℕ → List ℕ
 chainPx b count width color c px =
     let pts = jointsOf b count in
-    cond (leb count 64) (left (pointsNumber c (length px) pts (floatOk width)) px (polylined (c .pitch) (c .clip) pts width color px)) px
+    cond (leb count 64) (left (pointsNumber c (length px) pts (floatOk width)) px
+    (polylined (c .pitch) (c .clip) pts width color px)) px
 
 -- the steps of that call that alter a pixel's value
 unfoldable pub chainSteps : List ℕ → ℕ → Float → Color → Canvas → List ℕ → ℕ
 chainSteps b count width color c px =
     let pts = jointsOf b count in
-    cond (leb count 64) (cond (eqb (pointsNumber c (length px) pts (floatOk width)) 0) (polylineSteps (c .pitch) (c .clip) pts width color px) 0) 0
+    cond (leb count 64) (cond (eqb (pointsNumber c (length px) pts (floatOk width)) 0)
+    (polylineSteps (c .pitch) (c .clip) pts width color px) 0) 0
 
 -- px after an item, where so many scratch words are lent
 unfoldable pub shapePx : List ℕ → Item → Canvas → List ℕ → ℕ → List ℕ
 shapePx b (Push rect) c px words = px
 shapePx b Pop c px words = px
 shapePx b (Fill rect r paint) c px words = called c (rrectFloats rect r paint) (fillReach rect) (fillInk rect r paint) px
-shapePx b (Stroke rect r width color) c px words = called c (strokeOk rect r width) (strokeReach rect color) (strokeInk rect r width color) px
+shapePx b (Stroke rect r width color) c px words = called c (strokeOk rect r width) (strokeReach rect color)
+    (strokeInk rect r width color) px
 shapePx b (Line a e width color) c px words = called c (lineOk a e width) (lineReach a e width) (lineInk a e width color) px
 shapePx b (Poly paint count) c px words = polyPx b count paint c px words
 shapePx b (Shadow rect r blur color skip) c px words =
@@ -67,7 +73,8 @@ shapePx b (Shadow rect r blur color skip) c px words =
 shapePx b (Chain width color count) c px words = chainPx b count width color c px
 shapePx b Unknown c px words = px
 
--- the steps of an item that alter a pixel's value: the places at which px before and after it differ, of a chain those of its lines
+-- the steps of an item that alter a pixel's value: the places at which px before and after it differ, of a chain those of its
+-- lines
 unfoldable pub shapeSteps : List ℕ → Item → Canvas → List ℕ → ℕ → ℕ
 shapeSteps b (Push rect) c px words = 0
 shapeSteps b Pop c px words = 0
@@ -127,4 +134,5 @@ stepsFrom sheet (suc n) k s = itemSteps (bytesAt sheet k) s + stepsFrom sheet n 
 -- what drawing the item that some bytes are promises
 abbrev pub DrewItem : List ℕ → Canvas → List ℕ → List Float → List ℕ → List Float → ℕ → Type 0
 DrewItem b c px scratch =
-    Left (shapePx b (itemOf b) c px (length scratch)) (shapeScratch b (itemOf b) c (length px) scratch) (itemSteps b (stage c px scratch))
+    Left (shapePx b (itemOf b) c px (length scratch)) (shapeScratch b (itemOf b) c (length px) scratch)
+    (itemSteps b (stage c px scratch))

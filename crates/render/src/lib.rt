@@ -19,7 +19,8 @@ ghost use mathlib.Core.Path.{_≡_};
 ghost use lib.ListN.{length};
 ghost use Rattle.draw.specs.Draw.{differ};
 ghost use Rattle.sheet.specs.Check.{countOf};
-ghost use Rattle.render.specs.Stages.{chainPx, chainSteps, polyPx, polyScratch, shapePx, shapeScratch, shapeSteps, Left, DrewItem, stage, stagesFrom, stepsFrom};
+ghost use Rattle.render.specs.Stages.{chainPx, chainSteps, polyPx, polyScratch, shapePx, shapeScratch, shapeSteps, Left};
+ghost use Rattle.render.specs.Stages.{DrewItem, stage, stagesFrom, stepsFrom};
 
 // Draws a polygon of so many points, whose coordinates stand in its bytes; its steps that altered a pixel's value.
 fn draw_poly(
@@ -30,7 +31,10 @@ fn draw_poly(
     px: &mut [u32],
     scratch: &mut [f32],
 ) -> u64
-    ensures { λ n. ⌜ Left (polyPx (now (b .entry)) count paint canvas (now (px .entry)) (length (now (scratch .entry)))) (polyScratch (now (b .entry)) count paint canvas (length (now (px .entry))) (now (scratch .entry))) (differ (now (px .entry)) (polyPx (now (b .entry)) count paint canvas (now (px .entry)) (length (now (scratch .entry))))) (now (px .exit)) (now (scratch .exit)) n ⌝ }
+    ensures { λ n. ⌜ Left (polyPx (now (b .entry)) count paint canvas (now (px .entry)) (length (now (scratch .entry))))
+        (polyScratch (now (b .entry)) count paint canvas (length (now (px .entry))) (now (scratch .entry)))
+        (differ (now (px .entry)) (polyPx (now (b .entry)) count paint canvas (now (px .entry)) (length (now (scratch .entry)))))
+        (now (px .exit)) (now (scratch .exit)) n ⌝ }
 {
     if count > 64 {
         return 0;
@@ -48,7 +52,8 @@ fn draw_chain(
     canvas: Canvas,
     px: &mut [u32],
 ) -> u64
-    ensures { λ n. ⌜ (now (px .exit) ≡ chainPx (now (b .entry)) count width color canvas (now (px .entry))) × (n ≡ chainSteps (now (b .entry)) count width color canvas (now (px .entry))) ⌝ }
+    ensures { λ n. ⌜ (now (px .exit) ≡ chainPx (now (b .entry)) count width color canvas (now (px .entry)))
+        × (n ≡ chainSteps (now (b .entry)) count width color canvas (now (px .entry))) ⌝ }
 {
     if count > 64 {
         return 0;
@@ -59,7 +64,10 @@ fn draw_chain(
 
 // Draws an item that is a shape; any other leaves px and scratch. The steps that altered a pixel's value.
 fn draw_shape(b: &[u8], item: Item, canvas: Canvas, px: &mut [u32], scratch: &mut [f32]) -> u64
-    ensures { λ n. ⌜ Left (shapePx (now (b .entry)) item canvas (now (px .entry)) (length (now (scratch .entry)))) (shapeScratch (now (b .entry)) item canvas (length (now (px .entry))) (now (scratch .entry))) (shapeSteps (now (b .entry)) item canvas (now (px .entry)) (length (now (scratch .entry)))) (now (px .exit)) (now (scratch .exit)) n ⌝ }
+    ensures { λ n. ⌜ Left (shapePx (now (b .entry)) item canvas (now (px .entry)) (length (now (scratch .entry))))
+        (shapeScratch (now (b .entry)) item canvas (length (now (px .entry))) (now (scratch .entry)))
+        (shapeSteps (now (b .entry)) item canvas (now (px .entry)) (length (now (scratch .entry)))) (now (px .exit))
+        (now (scratch .exit)) n ⌝ }
 {
     match item {
         Item::Push(_) => 0,
@@ -96,15 +104,21 @@ fn draw_shape(b: &[u8], item: Item, canvas: Canvas, px: &mut [u32], scratch: &mu
 
 // Draws the item that some bytes are; its steps that altered a pixel's value.
 fn draw_item(b: &[u8], canvas: Canvas, px: &mut [u32], scratch: &mut [f32]) -> u64
-    ensures { λ n. ⌜ DrewItem (now (b .entry)) canvas (now (px .entry)) (now (scratch .entry)) (now (px .exit)) (now (scratch .exit)) n ⌝ }
+    ensures { λ n. ⌜ DrewItem (now (b .entry)) canvas (now (px .entry)) (now (scratch .entry)) (now (px .exit))
+        (now (scratch .exit)) n ⌝ }
 {
     let item = item_of(b);
     draw_shape(b, item, canvas, px, scratch)
 }
 
-// Draws the items of a sheet in their order, from a state; their steps that altered a pixel's value. Only a push or a pop alters the state.
+// Draws the items of a sheet in their order, from a state; their steps that altered a pixel's value. Only a push or a pop alters
+// the state.
 pub fn render(s: &[u8], canvas: Canvas, px: &mut [u32], scratch: &mut [f32]) -> u64
-    ensures { λ n. ⌜ Left (stagesFrom (now (s .entry)) (countOf (now (s .entry))) 0 (stage canvas (now (px .entry)) (now (scratch .entry))) .px) (stagesFrom (now (s .entry)) (countOf (now (s .entry))) 0 (stage canvas (now (px .entry)) (now (scratch .entry))) .scratch) (stepsFrom (now (s .entry)) (countOf (now (s .entry))) 0 (stage canvas (now (px .entry)) (now (scratch .entry)))) (now (px .exit)) (now (scratch .exit)) n ⌝ }
+    ensures { λ n. ⌜ Left (stagesFrom (now (s .entry)) (countOf (now (s .entry))) 0
+        (stage canvas (now (px .entry)) (now (scratch .entry))) .px)
+        (stagesFrom (now (s .entry)) (countOf (now (s .entry))) 0 (stage canvas (now (px .entry)) (now (scratch .entry)))
+        .scratch) (stepsFrom (now (s .entry)) (countOf (now (s .entry))) 0
+        (stage canvas (now (px .entry)) (now (scratch .entry)))) (now (px .exit)) (now (scratch .exit)) n ⌝ }
 {
     let n = u16_at(s, 8);
     let mut state = canvas;

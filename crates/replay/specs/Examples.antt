@@ -17,9 +17,11 @@ use Rattle.sheet.specs.Kinds.{layoutAt, lengthOk, pointsOk, paintBytesOk, bytes
 use Rattle.sheet.specs.Check as checks
 use Rattle.sheet.specs.Check.{headerOk, pairsFrom, pairsOk, headNumber, numberAt, depthAt, sheetCheck}
 use Rattle.items.specs.Items.{readPaint, readItem, coordsFrom}
-use Rattle.items.specs.Format.{reachOf, partsOf, needOf, drawnAs, itemsFrom, itemNeed, needs, sameBytes, sameItem, reading, kind, format}
+use Rattle.items.specs.Format.{reachOf, partsOf, needOf, drawnAs, itemsFrom, itemNeed, needs, sameBytes, sameItem, reading, kind}
+use Rattle.items.specs.Format.{format}
 use Rattle.draw.specs.Frame.{pitchOk, pitchNumber, frameNumber}
-use Rattle.redraw.specs.Sheet.{canvas, sameHeader, few, change, reaches, lentNumber, drawsUnless, lent, patchBy, patchOf, patching, answer}
+use Rattle.redraw.specs.Sheet.{canvas, sameHeader, few, change, reaches, lentNumber, drawsUnless, lent, patchBy, patchOf}
+use Rattle.redraw.specs.Sheet.{patching, answer}
 use Rattle.redraw.specs.Drawing.{after}
 use Rattle.redraw.specs.Ceiling.{boxArea, partsMeeting, shapesMeeting, readMeeting}
 use Rattle.replay.specs.Starred.{red, zero, two}
@@ -70,5 +72,10 @@ pub ceilings :
     × (meeting (columns 6 16) clipped ≡ 0)
     -- a patch between equal sheets is accepted, and its box is empty
     × (answer (patching format (red two) (red two) 4 4 0) ≡ record { number = 0; item = 0; area = noBox })
-unfolding patching patchOf patchBy lent lentNumber drawsUnless frameNumber pitchNumber pitchOk answer sameItem sameBytes sameHeader change after few reaches canvas joinAll needOf itemNeed needs readMeeting shapesMeeting partsMeeting reading sheetCheck checks.itemsFrom numberAt depthAt headNumber headerOk pairsOk pairsFrom itemNumber savedOk floatsOk paintFloatsOk bytesOk paintBytesOk pointsOk lengthOk layoutAt allAt floatOk itemsFrom drawnAs readItem readPaint coordsFrom reachOf partsOf linesFrom lineReach absOf empty meet maxZ minZ noBox fillReach noArea outerOf floorOf ceilOf ofBits round add sub mul ofInt lt le eq ne neg toSigned toUnsigned
+unfolding patching patchOf patchBy lent lentNumber drawsUnless frameNumber pitchNumber pitchOk answer sameItem sameBytes
+    sameHeader change after few reaches canvas joinAll needOf itemNeed needs readMeeting shapesMeeting partsMeeting reading
+    sheetCheck checks.itemsFrom numberAt depthAt headNumber headerOk pairsOk pairsFrom itemNumber savedOk floatsOk paintFloatsOk
+    bytesOk paintBytesOk pointsOk lengthOk layoutAt allAt floatOk itemsFrom drawnAs readItem readPaint coordsFrom reachOf partsOf
+    linesFrom lineReach absOf empty meet maxZ minZ noBox fillReach noArea outerOf floorOf ceilOf ofBits round add sub mul ofInt lt
+    le eq ne neg toSigned toUnsigned
 ceilings = (refl, refl, refl, refl, refl, refl, refl, refl, refl, refl, refl)

@@ -1,5 +1,5 @@
--- A painting and a list of patches as a fold of redraw's outcomes: the sheet accepted last, what the last call returned, and every word of px
--- and scratch. `replay` is this fold, for any bytes, refused calls included.
+-- A painting and a list of patches as a fold of redraw's outcomes: the sheet accepted last, what the last call returned, and
+-- every word of px and scratch. `replay` is this fold, for any bytes, refused calls included.
 use mathlib.Core.Bool.{true, cond}
 use mathlib.Core.List.{List, [], _∷_}
 use mathlib.Core.Path.{_≡_}
@@ -43,7 +43,8 @@ module _ {Word : Type 0} (zeroWord : Word) (F : Format) (pitch : ℕ) where
 
   -- after a patch from the sheet accepted last
   unfoldable pub next : Stand Word → List ℕ → Stand Word
-  next s sheet = stands (patching F (s .kept) sheet pitch (length (s .px)) (length (s .scratch))) sheet (s .kept) (s .px) (s .scratch)
+  next s sheet = stands (patching F (s .kept) sheet pitch (length (s .px)) (length (s .scratch))) sheet (s .kept) (s .px)
+      (s .scratch)
 
   unfoldable pub run : Stand Word → List (List ℕ) → Stand Word
   run s [] = s
@@ -52,9 +53,11 @@ module _ {Word : Type 0} (zeroWord : Word) (F : Format) (pitch : ℕ) where
   -- a painting, and where it is accepted a patch to each of the other sheets
   unfoldable pub replayed : List ℕ → List (List ℕ) → List ℕ → List Word → Stand Word
   replayed first others px scratch =
-      cond (accepted (painting F first pitch (length px) (length scratch))) (run (begun first px scratch) others) (begun first px scratch)
+      cond (accepted (painting F first pitch (length px) (length scratch))) (run (begun first px scratch) others)
+      (begun first px scratch)
 
-  -- what is claimed of the fold: after an accepted painting, px shows the sheet accepted last, and the words past the canvas are as they came
+  -- what is claimed of the fold: after an accepted painting, px shows the sheet accepted last, and the words past the canvas are
+  -- as they came
   abbrev pub Shows : Type 0
   Shows =
       (first : List ℕ) (others : List (List ℕ)) (px : List ℕ) (scratch : List Word)
@@ -68,7 +71,8 @@ unfoldable pub standing : {Word : Type 0} → List ℕ → Replayed → List ℕ
 standing sheets r px scratch = record { kept = part (r .from) (r .to) sheets; reply = r .reply; px = px; scratch = scratch }
 
 -- the contract of `replay`, and of its parts: the bounds lie in the bytes, and the list stands as said
-pub record Ran {Word : Type 0} (sheets : List ℕ) (said : Stand Word) (r : Replayed) (px′ : List ℕ) (scratch′ : List Word) : Type 0 where
-  pub ordered : r .from ≤ r .to
-  pub within : r .to ≤ length sheets
-  pub is : standing sheets r px′ scratch′ ≡ said
+pub record Ran {Word : Type 0} (sheets : List ℕ) (said : Stand Word) (r : Replayed) (px′ : List ℕ) (scratch′ : List Word) : Type 0
+  where
+    pub ordered : r .from ≤ r .to
+    pub within : r .to ≤ length sheets
+    pub is : standing sheets r px′ scratch′ ≡ said

@@ -26,11 +26,13 @@ use Rattle.sheet.specs.Kinds.{layoutAt, lengthOk, pointsOk, paintBytesOk, bytes
 use Rattle.sheet.specs.Check as checks
 use Rattle.sheet.specs.Check.{headerOk, pairsFrom, pairsOk, headNumber, numberAt, depthAt, sheetCheck}
 use Rattle.items.specs.Items.{readPaint, readItem}
-use Rattle.items.specs.Format.{reachOf, inkOf, partsOf, needOf, drawnAs, itemsFrom, itemNeed, needs, sameBytes, sameBox, sameItem, reading, kind, format}
+use Rattle.items.specs.Format.{reachOf, inkOf, partsOf, needOf, drawnAs, itemsFrom, itemNeed, needs, sameBytes, sameBox, sameItem}
+use Rattle.items.specs.Format.{reading, kind, format}
 use Rattle.redraw.specs.Drawing.{after, shapeOn, itemOn, itemsOn, groundIn}
 use Rattle.redraw.specs.Counts.{itemAlters, itemsAlter, stepsOf, groundsOf}
 use Rattle.draw.specs.Frame.{pitchOk, pitchNumber, frameNumber}
-use Rattle.redraw.specs.Sheet.{canvas, sameHeader, few, tooMany, withPair, bothShapes, change, reaches, lentNumber, drawsUnless, lent, paintOf, patchBy, patchOf, painting, patching, answer, pixels}
+use Rattle.redraw.specs.Sheet.{canvas, sameHeader, few, tooMany, withPair, bothShapes, change, reaches, lentNumber, drawsUnless}
+use Rattle.redraw.specs.Sheet.{lent, paintOf, patchBy, patchOf, painting, patching, answer, pixels}
 
 -- 0, 1 and 2 as the bytes of floats
 abbrev pub zero : List ℕ
@@ -51,9 +53,16 @@ red x =
 -- painted, and then patched to (2, 0, 1, 1): box 0,0,3,1, red only in the third pixel
 pub moved :
     (pixels kind 4 (painting format (red zero) 4 4 0) (7 ∷ 7 ∷ 7 ∷ 7 ∷ []) ≡ 0x00ff_0000 ∷ 0 ∷ 0 ∷ 0 ∷ [])
-    × (answer (patching format (red zero) (red two) 4 4 0) ≡ record { number = 0; item = 0; area = boxOf (pos 0) (pos 0) (pos 3) (pos 1) })
+    × (answer (patching format (red zero) (red two) 4 4 0)
+    ≡ record { number = 0; item = 0; area = boxOf (pos 0) (pos 0) (pos 3) (pos 1) })
     × (pixels kind 4 (patching format (red zero) (red two) 4 4 0) (0x00ff_0000 ∷ 0 ∷ 0 ∷ 0 ∷ []) ≡ 0 ∷ 0 ∷ 0x00ff_0000 ∷ 0 ∷ [])
-unfolding painting paintOf patching patchOf patchBy lent lentNumber drawsUnless frameNumber pitchNumber pitchOk reading sheetCheck checks.itemsFrom numberAt depthAt headNumber headerOk pairsOk pairsFrom itemNumber savedOk floatsOk paintFloatsOk bytesOk paintBytesOk pointsOk lengthOk layoutAt allAt floatOk itemsFrom drawnAs readItem readPaint reachOf inkOf needOf itemNeed needs sameItem sameBytes sameBox sameHeader change bothShapes withPair few tooMany reaches canvas joinAll join around empty meet maxZ minZ noBox answer pixels itemsOn itemOn shapeOn after groundIn drawn onto eachAt meets inside inColumns fillReach noArea outerOf middle coverOf rimInk middleInk roundInk paintAt radiusOf rrectSd cornerSd cov8Of blended coveredBy floorOf ceilOf ofBits round add sub mul ofInt lt le eq ne neg toSigned toUnsigned
+unfolding painting paintOf patching patchOf patchBy lent lentNumber drawsUnless frameNumber pitchNumber pitchOk reading sheetCheck
+    checks.itemsFrom numberAt depthAt headNumber headerOk pairsOk pairsFrom itemNumber savedOk floatsOk paintFloatsOk bytesOk
+    paintBytesOk pointsOk lengthOk layoutAt allAt floatOk itemsFrom drawnAs readItem readPaint reachOf inkOf needOf itemNeed needs
+    sameItem sameBytes sameBox sameHeader change bothShapes withPair few tooMany reaches canvas joinAll join around empty meet
+    maxZ minZ noBox answer pixels itemsOn itemOn shapeOn after groundIn drawn onto eachAt meets inside inColumns fillReach noArea
+    outerOf middle coverOf rimInk middleInk roundInk paintAt radiusOf rrectSd cornerSd cov8Of blended coveredBy floorOf ceilOf
+    ofBits round add sub mul ofInt lt le eq ne neg toSigned toUnsigned
 moved = (refl, refl, refl)
 
 -- what the two calls count: the painting on four words of 7, and the patch on what it left
@@ -62,7 +71,13 @@ pub counted :
     × (groundsOf kind 4 (painting format (red zero) 4 4 0) (7 ∷ 7 ∷ 7 ∷ 7 ∷ []) ≡ 4)
     × (stepsOf kind 4 (patching format (red zero) (red two) 4 4 0) (0x00ff_0000 ∷ 0 ∷ 0 ∷ 0 ∷ []) ≡ 1)
     × (groundsOf kind 4 (patching format (red zero) (red two) 4 4 0) (0x00ff_0000 ∷ 0 ∷ 0 ∷ 0 ∷ []) ≡ 1)
-unfolding painting paintOf patching patchOf patchBy lent lentNumber drawsUnless frameNumber pitchNumber pitchOk reading sheetCheck checks.itemsFrom numberAt depthAt headNumber headerOk pairsOk pairsFrom itemNumber savedOk floatsOk paintFloatsOk bytesOk paintBytesOk pointsOk lengthOk layoutAt allAt floatOk itemsFrom drawnAs readItem readPaint reachOf inkOf needOf itemNeed needs sameItem sameBytes sameBox sameHeader change bothShapes withPair few tooMany reaches canvas joinAll join around empty meet maxZ minZ noBox itemOn shapeOn after groundIn stepsOf groundsOf itemsAlter itemAlters altersAll partsOf differ drawn onto eachAt meets inside inColumns fillReach noArea outerOf middle coverOf rimInk middleInk roundInk paintAt radiusOf rrectSd cornerSd cov8Of blended coveredBy floorOf ceilOf ofBits round add sub mul ofInt lt le eq ne neg toSigned toUnsigned
+unfolding painting paintOf patching patchOf patchBy lent lentNumber drawsUnless frameNumber pitchNumber pitchOk reading sheetCheck
+    checks.itemsFrom numberAt depthAt headNumber headerOk pairsOk pairsFrom itemNumber savedOk floatsOk paintFloatsOk bytesOk
+    paintBytesOk pointsOk lengthOk layoutAt allAt floatOk itemsFrom drawnAs readItem readPaint reachOf inkOf needOf itemNeed needs
+    sameItem sameBytes sameBox sameHeader change bothShapes withPair few tooMany reaches canvas joinAll join around empty meet
+    maxZ minZ noBox itemOn shapeOn after groundIn stepsOf groundsOf itemsAlter itemAlters altersAll partsOf differ drawn onto
+    eachAt meets inside inColumns fillReach noArea outerOf middle coverOf rimInk middleInk roundInk paintAt radiusOf rrectSd
+    cornerSd cov8Of blended coveredBy floorOf ceilOf ofBits round add sub mul ofInt lt le eq ne neg toSigned toUnsigned
 counted = (refl, refl, refl, refl)
 
 -- every starred example of document 01, in its order
@@ -89,11 +104,29 @@ pub starred :
     × (floorOf (ofBits binary32 0xbf00_0000) ≡ ofBits binary32 0xbf80_0000)
     × (ceilOf (ofBits binary32 0xbf00_0000) ≡ ofBits binary32 0x8000_0000)
     -- white fill (0.5, 0, 1, 1) on 2 × 1 of 0
-    × (drawn 2 (boxOf (pos 0) (pos 0) (pos 2) (pos 1)) (fillReach (rectOf f½ f0 f1 f1)) (fillInk (rectOf f½ f0 f1 f1) f0 (Solid (rgbaOf 255 255 255 255))) (0 ∷ 0 ∷ []) ≡ 0x0080_8080 ∷ 0x0080_8080 ∷ [])
+    × (drawn 2 (boxOf (pos 0) (pos 0) (pos 2) (pos 1)) (fillReach (rectOf f½ f0 f1 f1))
+    (fillInk (rectOf f½ f0 f1 f1) f0 (Solid (rgbaOf 255 255 255 255))) (0 ∷ 0 ∷ []) ≡ 0x0080_8080 ∷ 0x0080_8080 ∷ [])
     -- the sheet of `paintsheet`, patched to (2, 0, 1, 1): box 0,0,3,1
-    × (answer (patching format (red zero) (red two) 4 4 0) ≡ record { number = 0; item = 0; area = boxOf (pos 0) (pos 0) (pos 3) (pos 1) })
+    × (answer (patching format (red zero) (red two) 4 4 0)
+    ≡ record { number = 0; item = 0; area = boxOf (pos 0) (pos 0) (pos 3) (pos 1) })
     -- and red only in the third pixel
     × (pixels kind 4 (patching format (red zero) (red two) 4 4 0) (0x00ff_0000 ∷ 0 ∷ 0 ∷ 0 ∷ []) ≡ 0 ∷ 0 ∷ 0x00ff_0000 ∷ 0 ∷ [])
 unfolding cov8Of ofBits round sub mul add lt neg toUnsigned
-starred =
-    (ink-127, ink-128, red-128, alpha-0, alpha-1, cover-128, refl, refl, refl, refl, root-two, floor-minus-half, ceil-minus-half, half-white-and-red .0, moved .1, moved .2)
+starred = (
+  ink-127,
+  ink-128,
+  red-128,
+  alpha-0,
+  alpha-1,
+  cover-128,
+  refl,
+  refl,
+  refl,
+  refl,
+  root-two,
+  floor-minus-half,
+  ceil-minus-half,
+  half-white-and-red .0,
+  moved .1,
+  moved .2,
+)

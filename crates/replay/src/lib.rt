@@ -8,7 +8,8 @@ ghost use lib.ListN.{length, take, drop};
 ghost use Rattle.items.specs.Format.{format, zeroWord};
 ghost use Rattle.replay.specs.Ran.{part, cut, next, run, replayed, standing, Ran};
 
-// What the last call returned, and where the sheet accepted last lies; after a refused painting there is none, and both bounds are 0.
+// What the last call returned, and where the sheet accepted last lies; after a refused painting there is none, and both bounds
+// are 0.
 pub struct Replayed {
     pub reply: Reply,
     pub from: usize,
@@ -37,7 +38,9 @@ fn advance(
     scratch: &mut [f32],
 ) -> Replayed
     requires { ⌜ (kept .from ≤ kept .to) × (kept .to ≤ length (now sheets)) × (at ≤ end) × (end ≤ length (now sheets)) ⌝ }
-    ensures { λ r. ⌜ Ran (now (sheets .entry)) (next zeroWord format pitch (standing (now (sheets .entry)) kept (now (px .entry)) (now (scratch .entry))) (part at end (now (sheets .entry)))) r (now (px .exit)) (now (scratch .exit)) ⌝ }
+    ensures { λ r. ⌜ Ran (now (sheets .entry))
+        (next zeroWord format pitch (standing (now (sheets .entry)) kept (now (px .entry)) (now (scratch .entry)))
+        (part at end (now (sheets .entry)))) r (now (px .exit)) (now (scratch .exit)) ⌝ }
 {
     let from = kept.from;
     let to = kept.to;
@@ -64,7 +67,9 @@ fn patches(
     scratch: &mut [f32],
 ) -> Replayed
     requires { ⌜ (state .from ≤ state .to) × (state .to ≤ length (now sheets)) × (start ≤ length (now sheets)) ⌝ }
-    ensures { λ r. ⌜ Ran (now (sheets .entry)) (run zeroWord format pitch (standing (now (sheets .entry)) state (now (px .entry)) (now (scratch .entry))) (cut (now (lens .entry)) (drop start (now (sheets .entry))))) r (now (px .exit)) (now (scratch .exit)) ⌝ }
+    ensures { λ r. ⌜ Ran (now (sheets .entry))
+        (run zeroWord format pitch (standing (now (sheets .entry)) state (now (px .entry)) (now (scratch .entry)))
+        (cut (now (lens .entry)) (drop start (now (sheets .entry))))) r (now (px .exit)) (now (scratch .exit)) ⌝ }
 {
     let mut s = state;
     let mut at = start;
@@ -78,9 +83,9 @@ fn patches(
     s
 }
 
-// Paints the first sheet, sheets[..first], and where that is accepted patches to each of the sheets that follow it, by their lengths, each from the
-// sheet accepted last, all in rows of `pitch` words. Of a sheet that runs past the bytes, the first included, what there is of it is painted or
-// patched to. What the calls before the last returned, a shorter list tells.
+// Paints the first sheet, sheets[..first], and where that is accepted patches to each of the sheets that follow it, by their
+// lengths, each from the sheet accepted last, all in rows of `pitch` words. Of a sheet that runs past the bytes, the first
+// included, what there is of it is painted or patched to. What the calls before the last returned, a shorter list tells.
 pub fn replay(
     sheets: &[u8],
     first: usize,
@@ -89,7 +94,10 @@ pub fn replay(
     px: &mut [u32],
     scratch: &mut [f32],
 ) -> Replayed
-    ensures { λ r. ⌜ Ran (now (sheets .entry)) (replayed zeroWord format pitch (take first (now (sheets .entry))) (cut (now (lens .entry)) (drop first (now (sheets .entry)))) (now (px .entry)) (now (scratch .entry))) r (now (px .exit)) (now (scratch .exit)) ⌝ }
+    ensures { λ r. ⌜ Ran (now (sheets .entry))
+        (replayed zeroWord format pitch (take first (now (sheets .entry)))
+        (cut (now (lens .entry)) (drop first (now (sheets .entry)))) (now (px .entry)) (now (scratch .entry))) r (now (px .exit))
+        (now (scratch .exit)) ⌝ }
 {
     let end = end_of(sheets, 0, first);
     let reply = paint(&sheets[..end], pitch, px, scratch);

@@ -1,5 +1,5 @@
-// Replays the stored answers of the unchanged Rust: how many cases of each function of an area ran, and how many differ. The arguments name
-// the files of the areas, in the areas' order; a function goes by its number.
+// Replays the stored answers of the unchanged Rust: how many cases of each function of an area ran, and how many differ. The
+// arguments name the files of the areas, in the areas' order; a function goes by its number.
 use leaves::ALL;
 use leaves::Tally;
 use leaves::count;

@@ -87,7 +87,8 @@ cornerSide s a blur qy xc =
 
 unfoldable pub straightAlpha : Rounded → ℕ → Float → Bool → Float → ℕ → ℕ
 straightAlpha s a blur skip sdy x =
-    cond (inColumns (straightFrom s blur) (straightUpto s blur) x) (straightMiddle a blur skip sdy) (straightSide s a blur sdy (centreOf x))
+    cond (inColumns (straightFrom s blur) (straightUpto s blur) x) (straightMiddle a blur skip sdy)
+    (straightSide s a blur sdy (centreOf x))
 
 unfoldable pub cornerAlpha : Rounded → ℕ → Float → Float → ℕ → ℕ
 cornerAlpha s a blur qy x =

@@ -25,8 +25,11 @@ ghost use Rattle.draw.specs.Held.{Holds};
 ghost use Rattle.draw.specs.Areas.{RowFits, AreaFits, DrewRow, DrewIn};
 ghost use Rattle.gfx.specs.Calls.{ShapeCalled, shapeNumber};
 ghost use Rattle.paints.specs.Paints.{centreOf};
-ghost use Rattle.shadow.specs.Shadow.{shadowOk, shadowReach, levelOf, table, stepsOut, alphaOf, rowDy, rowQy, straightFrom, straightUpto, straightMiddle, straightSide, cornerFrom, cornerUpto, cornerSide, shadeInk, shadowInk};
-ghost use Rattle.shadow.specs.Spans.{Faded, Table, columnAlpha, sideAlpha, eachInk, tableAlpha, flatInk, straightInk, cornerInk, straightRowInk, cornerRowInk};
+ghost use Rattle.shadow.specs.Shadow.{shadowOk, shadowReach, levelOf, table, stepsOut, alphaOf, rowDy, rowQy, straightFrom};
+ghost use Rattle.shadow.specs.Shadow.{straightUpto, straightMiddle, straightSide, cornerFrom, cornerUpto, cornerSide};
+ghost use Rattle.shadow.specs.Shadow.{shadeInk, shadowInk};
+ghost use Rattle.shadow.specs.Spans.{Faded, Table, columnAlpha, sideAlpha, eachInk, tableAlpha, flatInk, straightInk};
+ghost use Rattle.shadow.specs.Spans.{cornerInk, straightRowInk, cornerRowInk};
 
 // The reach: nothing where the colour has no alpha or the blur is not above 0.
 pub fn shadow_reach(rect: Rect, blur: f32, c: Color) -> IRect
@@ -126,7 +129,8 @@ fn columns(lut: &[u32; 97], h: Shade, x0: usize, x1: usize) -> [u32; 2048]
 // The alpha beside the middle of a straight row, from that of its column and that of the row.
 fn straight_side(h: Shade, sdy: f32, x: usize, col: u32, row: u32) -> u32
     requires { ⌜ x < 2048 ⌝ }
-    ensures { λ r. ⌜ (col ≡ columnAlpha h x → row ≡ alphaOf (h .c .a) (h .blur) sdy → r ≡ straightSide (h .s) (h .c .a) (h .blur) sdy (centreOf x)) ⌝ }
+    ensures { λ r. ⌜ (col ≡ columnAlpha h x → row ≡ alphaOf (h .c .a) (h .blur) sdy → r
+        ≡ straightSide (h .s) (h .c .a) (h .blur) sdy (centreOf x)) ⌝ }
 {
     let sdx = mathf::fabs(centre(x as u16) - h.s.cx) - h.s.hw;
     if sdx > sdy { col } else { row }
@@ -471,7 +475,9 @@ pub fn shadow_rrect(
     color: Color,
     skip: bool,
 ) -> Counted
-    ensures { λ d. ⌜ ShapeCalled (shapeNumber canvas (length (now (px .entry))) (shadowOk rect r blur)) canvas (now (px .entry)) (drawn (canvas .pitch) (canvas .clip) (shadowReach rect blur color) (shadowInk rect r blur color skip) (now (px .entry))) d (now (px .exit)) ⌝ }
+    ensures { λ d. ⌜ ShapeCalled (shapeNumber canvas (length (now (px .entry))) (shadowOk rect r blur)) canvas (now (px .entry))
+        (drawn (canvas .pitch) (canvas .clip) (shadowReach rect blur color) (shadowInk rect r blur color skip) (now (px .entry)))
+        d (now (px .exit)) ⌝ }
 {
     let ok = rect.in_range() & floats_ok(r, blur);
     let number = canvas.shape_number(px.len(), ok);

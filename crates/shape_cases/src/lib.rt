@@ -1,7 +1,7 @@
-// Shape calls: a case has the function, two sides, a pitch, four words of clip, the paint's kind or `skip_inside`, four floats and two colours
-// of a paint, a radius, a width or blur, the count of coordinates, 12 of them, the count, base and step of px, the words of scratch that are
-// left +0, what is left in px (a pitch, so many columns, up to 64 pixels), the number, and the steps that altered a pixel's value. Coordinates
-// past the 12 are the words that follow.
+// Shape calls: a case has the function, two sides, a pitch, four words of clip, the paint's kind or `skip_inside`, four floats
+// and two colours of a paint, a radius, a width or blur, the count of coordinates, 12 of them, the count, base and step of px,
+// the words of scratch that are left +0, what is left in px (a pitch, so many columns, up to 64 pixels), the number, and the
+// steps that altered a pixel's value. Coordinates past the 12 are the words that follow.
 use cases::canvas::framed;
 use cases::canvas::none_saved;
 use cases::canvas::same_state;
@@ -37,7 +37,8 @@ fn place(case: &[u8]) -> Rect {
     rect(from(case, 18))
 }
 
-// What a shape call tells: its number, or 99 where it does not leave the state as it was, and its steps that altered a pixel's value.
+// What a shape call tells: its number, or 99 where it does not leave the state as it was, and its steps that altered a pixel's
+// value.
 #[repr(C)]
 pub struct Told {
     pub number: u32,

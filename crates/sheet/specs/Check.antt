@@ -1,4 +1,5 @@
--- The number and the item that a sheet is refused with (document 01, "Number and item returned"): 1, 2, 3; then per item 4, 13, 5, 6, 7.
+-- The number and the item that a sheet is refused with (document 01, "Number and item returned"): 1, 2, 3; then per item 4, 13,
+-- 5, 6, 7.
 use Prim.Native.Nat.{ℕ, zero, suc, _+_, _*_}
 use mathlib.Core.List.{List}
 use mathlib.Core.Bool.{Bool, _&&_, cond}
@@ -40,7 +41,8 @@ sideOk n = leb 1 n && leb n 2048
 unfoldable pub headerOk : List ℕ → Bool
 headerOk s = sideOk (widthOf s) && sideOk (heightOf s) && leb (countOf s) 1024 && zeros s 7 1 && zeros s 10 2
 
--- `left` pairs from that of the item k on: its offset is `at`, each next is the last plus its length, and the last item ends the sheet
+-- `left` pairs from that of the item k on: its offset is `at`, each next is the last plus its length, and the last item ends the
+-- sheet
 unfoldable pub pairsFrom : List ℕ → ℕ → ℕ → ℕ → Bool
 pairsFrom s zero k at = eqb at (length s)
 pairsFrom s (suc left) k at = eqb (offsetOf s k) at && pairsFrom s left (k + 1) (at + lengthOf s k)

@@ -1,5 +1,5 @@
--- The examples of the table of numbers (document 01), and those of a chain (change request 2026-04), worked by the definitions: each side
--- computes. Assumes nothing.
+-- The examples of the table of numbers (document 01), and those of a chain (change request 2026-04), worked by the definitions:
+-- each side computes. Assumes nothing.
 use Prim.Native.Nat.{ℕ, zero, suc, _+_, _-_, _*_, _/_, _%_}
 use mathlib.Core.Path.{_≡_, refl}
 use mathlib.Core.List.{List, [], _∷_, _++_}
@@ -7,7 +7,8 @@ use lib.ListN.{replicate}
 use lib.Ieee.{le, lt, eq, neg, ofBits}
 use Rattle.geom.specs.Plane.{floatOk}
 use Rattle.sheet.specs.Bytes.{allAt}
-use Rattle.sheet.specs.Kinds.{layoutAt, lengthOk, pointsOk, paintBytesOk, bytesOk, paintFloatsOk, floatsOk, savedOk, itemNumber}
+use Rattle.sheet.specs.Kinds.{layoutAt, lengthOk, pointsOk, paintBytesOk, bytesOk, paintFloatsOk, floatsOk, savedOk}
+use Rattle.sheet.specs.Kinds.{itemNumber}
 use Rattle.sheet.specs.Check.{headerOk, pairsFrom, pairsOk, headNumber, numberAt, depthAt, verdict, itemsFrom, sheetCheck}
 
 -- a number as two bytes; 1 and 8,193 as floats
@@ -57,15 +58,16 @@ pub numbers :
     × (sheetCheck (sheet 1 52 (fill 0 large)) ≡ verdict 6 1)
     × (sheetCheck (sheet 17 20 push) ≡ verdict 7 17)
     × (sheetCheck (sheet 1 552 (polygon 65)) ≡ verdict 13 1)
-unfolding pairs times le lt eq neg ofBits floatOk allAt layoutAt lengthOk pointsOk paintBytesOk bytesOk paintFloatsOk floatsOk savedOk itemNumber headerOk pairsFrom pairsOk headNumber numberAt depthAt itemsFrom sheetCheck
+unfolding pairs times le lt eq neg ofBits floatOk allAt layoutAt lengthOk pointsOk paintBytesOk bytesOk paintFloatsOk floatsOk
+    savedOk itemNumber headerOk pairsFrom pairsOk headNumber numberAt depthAt itemsFrom sheetCheck
 numbers = (refl, refl, refl, refl, refl, refl, refl, refl, refl)
 
 -- a chain of n points, whose byte 1, width and first coordinate are given; the others are 0
 abbrev chain : ℕ → ℕ → List ℕ → List ℕ → List ℕ
 chain byte n width x = 8 ∷ byte ∷ n ∷ 0 ∷ width ++ replicate 4 0 ++ x ++ replicate (8 * n - 4) 0
 
--- of no point, of 2 and of 64: accepted; cut to 4 bytes, and 8 bytes longer than its m says: 4; 65 points: 13; byte 1 = 1: 5; width = 8,193 and
--- x = 8,193: 6; and the kind after it: 4
+-- of no point, of 2 and of 64: accepted; cut to 4 bytes, and 8 bytes longer than its m says: 4; 65 points: 13; byte 1 = 1: 5;
+-- width = 8,193 and x = 8,193: 6; and the kind after it: 4
 pub chains :
     (sheetCheck (sheet 1 12 (chain 0 0 one [])) ≡ verdict 0 0)
     × (sheetCheck (sheet 1 28 (chain 0 2 one one)) ≡ verdict 0 0)
@@ -77,5 +79,6 @@ pub chains :
     × (sheetCheck (sheet 1 28 (chain 0 2 large one)) ≡ verdict 6 1)
     × (sheetCheck (sheet 1 28 (chain 0 2 one large)) ≡ verdict 6 1)
     × (sheetCheck (sheet 1 12 (9 ∷ replicate 11 0)) ≡ verdict 4 1)
-unfolding pairs times le lt eq neg ofBits floatOk allAt layoutAt lengthOk pointsOk paintBytesOk bytesOk paintFloatsOk floatsOk savedOk itemNumber headerOk pairsFrom pairsOk headNumber numberAt depthAt itemsFrom sheetCheck
+unfolding pairs times le lt eq neg ofBits floatOk allAt layoutAt lengthOk pointsOk paintBytesOk bytesOk paintFloatsOk floatsOk
+    savedOk itemNumber headerOk pairsFrom pairsOk headNumber numberAt depthAt itemsFrom sheetCheck
 chains = (refl, refl, refl, refl, refl, refl, refl, refl, refl, refl)

@@ -15,8 +15,8 @@ kindAt s at = byteAt s at
 abbrev pub pointsAt : List ℕ → ℕ → ℕ
 pointsAt s at = u16At s (at + 2)
 
--- Where the fields of an item, or of a paint, lie, counted from its first byte: its length; the bytes that it leaves zero, the first and
--- how many; its floats, likewise; its paint, 0 where it has none.
+-- Where the fields of an item, or of a paint, lie, counted from its first byte: its length; the bytes that it leaves zero, the
+-- first and how many; its floats, likewise; its paint, 0 where it has none.
 abbrev pub row : ℕ → ℕ → ℕ → ℕ → ℕ → ℕ → Layout
 row l z zs f fs p = record { length = l; zero = z; zeros = zs; float = f; floats = fs; paint = p }
 

@@ -6,7 +6,8 @@ use crate::kinds::depth_after;
 use crate::kinds::item_number;
 ghost use mathlib.Core.Path.{_≡_};
 ghost use Prim.Native.Nat.{_<_};
-ghost use Rattle.sheet.specs.Check.{countOf, sideOk, headerOk, pairsOk, headNumber, numberAt, depthAt, itemsFrom, sheetCheck};
+ghost use Rattle.sheet.specs.Check.{countOf, sideOk, headerOk, pairsOk, headNumber, numberAt, depthAt, itemsFrom};
+ghost use Rattle.sheet.specs.Check.{sheetCheck};
 
 // The number that a sheet is refused with, and the item, counted from 1; 0 where there is none.
 pub struct Verdict {

@@ -7,10 +7,11 @@ use crate::bytes::u16_at;
 use geom::float_ok;
 ghost use mathlib.Core.Path.{_≡_};
 ghost use Prim.Native.Nat.{_<_};
-ghost use Rattle.sheet.specs.Kinds.{row, layoutOf, layoutAt, paintLayout, lengthOk, pointsOk, paintBytesOk, skipOk, bytesOk, paintFloatsOk, widthOk, floatsOk, savedOk, itemNumber, depthAfter};
+ghost use Rattle.sheet.specs.Kinds.{row, layoutOf, layoutAt, paintLayout, lengthOk, pointsOk, paintBytesOk, skipOk};
+ghost use Rattle.sheet.specs.Kinds.{bytesOk, paintFloatsOk, widthOk, floatsOk, savedOk, itemNumber, depthAfter};
 
-// Where the fields of an item, or of a paint, lie, counted from its first byte: its length; the bytes that it leaves zero, from `zero` on;
-// its floats, from `float` on; its paint, 0 where it has none.
+// Where the fields of an item, or of a paint, lie, counted from its first byte: its length; the bytes that it leaves zero, from
+// `zero` on; its floats, from `float` on; its paint, 0 where it has none.
 struct Layout {
     length: u32,
     zero: u8,

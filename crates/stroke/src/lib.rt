@@ -28,8 +28,10 @@ ghost use Rattle.draw.specs.Held.{Holds};
 ghost use Rattle.draw.specs.Areas.{RowFits, AreaFits, DrewRow, DrewIn};
 ghost use Rattle.gfx.specs.Calls.{ShapeCalled, shapeNumber};
 ghost use Rattle.paints.specs.Paints.{circleRect, roundedSd, centreOf};
-ghost use Rattle.stroke.specs.Stroke.{strokeOk, strokeReach, bandCover, fullRow, cornerRow, bandInk, outlineInk, strokeInk, ringOk};
-ghost use Rattle.stroke.specs.Rows.{LevelOf, BlankFrom, BlankUpto, widthOf, GapOf, RowGap, LevelIn, LevelPart, Ready, levelInk, columnCover, bandAt, eachInk};
+ghost use Rattle.stroke.specs.Stroke.{strokeOk, strokeReach, bandCover, fullRow, cornerRow, bandInk, outlineInk, strokeInk};
+ghost use Rattle.stroke.specs.Stroke.{ringOk};
+ghost use Rattle.stroke.specs.Rows.{LevelOf, BlankFrom, BlankUpto, widthOf, GapOf, RowGap, LevelIn, LevelPart, Ready};
+ghost use Rattle.stroke.specs.Rows.{levelInk, columnCover, bandAt, eachInk};
 
 // The reach: nothing where the rectangle has no width or no height, or the colour no alpha.
 pub fn stroke_reach(rect: Rect, c: Color) -> IRect
@@ -194,7 +196,8 @@ fn level_of(o: Frame, yc: f32) -> Level
 
 // The coverage of a point qx past one side and as far past the other as its row is: a root only near the band.
 fn corner_cover(r: f32, width: f32, l: Level, qx: f32) -> u32
-    ensures { λ n. ⌜ (BlankFrom r width (l .far) → BlankUpto r width (l .near) → n ≡ bandCover (sqrtOf (qx *ᶠ qx +ᶠ l .qy *ᶠ l .qy) -ᶠ r) width) ⌝ }
+    ensures { λ n. ⌜ (BlankFrom r width (l .far) → BlankUpto r width (l .near) → n
+        ≡ bandCover (sqrtOf (qx *ᶠ qx +ᶠ l .qy *ᶠ l .qy) -ᶠ r) width) ⌝ }
 {
     let d = qx * qx + l.qy * l.qy;
     if l.far <= d {
@@ -244,7 +247,8 @@ fn column_covers(s: Rounded, width: f32, x0: usize, x1: usize) -> [u32; 2048]
 // The coverage of column x of a row that is past no side, from that of its column.
 fn side_cover(s: Rounded, l: Level, x: usize, col: u32) -> u32
     requires { ⌜ x < 2048 ⌝ }
-    ensures { λ n. ⌜ ((width yc : Float) → LevelOf s width yc l → (l .qy ≤ᶠ f0) ≡ true → col ≡ columnCover s width x → n ≡ bandCover (roundedSd s (centreOf x) yc) width) ⌝ }
+    ensures { λ n. ⌜ ((width yc : Float) → LevelOf s width yc l → (l .qy ≤ᶠ f0) ≡ true → col ≡ columnCover s width x → n
+        ≡ bandCover (roundedSd s (centreOf x) yc) width) ⌝ }
 {
     let qx = mathf::fabs(centre(x as u16) - s.cx) - (s.hw - s.r);
     if qx > l.qy { col } else { l.level }
@@ -262,7 +266,8 @@ fn side_span(
     l: Level,
 ) -> u32
     requires { ⌜ RowFits pitch y x0 x1 (length (now px)) ⌝ }
-    requires { ⌜ LevelOf (o .s) (o .width) (centreOf y) l × ((l .qy ≤ᶠ f0) ≡ true) × Holds (columnCover (o .s) (o .width)) x0 x1 (now cols) ⌝ }
+    requires { ⌜ LevelOf (o .s) (o .width) (centreOf y) l × ((l .qy ≤ᶠ f0) ≡ true)
+        × Holds (columnCover (o .s) (o .width)) x0 x1 (now cols) ⌝ }
     ensures { λ n. ⌜ DrewRow pitch y x0 x1 (bandInk (o .s) (o .width) (o .c)) (now (px .entry)) n (now (px .exit)) ⌝ }
 {
     let row = y * pitch;
@@ -442,7 +447,8 @@ fn side_spans(
     g: Columns,
 ) -> u32
     requires { ⌜ RowFits pitch y x0 x1 (length (now px)) ⌝ }
-    requires { ⌜ LevelOf (o .s) (o .width) (centreOf y) l × RowGap (o .s) (o .width) (centreOf y) g × (fullRow (o .s) (o .width +ᶠ f1) (centreOf y) ≡ false) ⌝ }
+    requires { ⌜ LevelOf (o .s) (o .width) (centreOf y) l × RowGap (o .s) (o .width) (centreOf y) g
+        × (fullRow (o .s) (o .width +ᶠ f1) (centreOf y) ≡ false) ⌝ }
     requires { ⌜ Holds (columnCover (o .s) (o .width)) x0 x1 (now cols) ⌝ }
     ensures { λ n. ⌜ DrewRow pitch y x0 x1 (outlineInk (o .s) (o .width) (o .c)) (now (px .entry)) n (now (px .exit)) ⌝ }
 {
@@ -491,7 +497,8 @@ fn outline_row(
 // The rows of an area.
 fn outline_box(px: &mut [u32], cols: &[u32; 2048], pitch: usize, b: Area, o: Frame) -> u32
     requires { ⌜ AreaFits pitch b (length (now px)) ⌝ }
-    requires { ⌜ Ready o × LevelPart (o .s) (b .x0) (b .x1) (o .level) × Holds (columnCover (o .s) (o .width)) (b .x0) (b .x1) (now cols) ⌝ }
+    requires { ⌜ Ready o × LevelPart (o .s) (b .x0) (b .x1) (o .level)
+        × Holds (columnCover (o .s) (o .width)) (b .x0) (b .x1) (now cols) ⌝ }
     ensures { λ n. ⌜ DrewIn pitch b (outlineInk (o .s) (o .width) (o .c)) (now (px .entry)) n (now (px .exit)) ⌝ }
 {
     let x0 = b.x0;
@@ -548,7 +555,9 @@ fn outline(
     width: f32,
     c: Color,
 ) -> Counted
-    ensures { λ d. ⌜ ShapeCalled (shapeNumber canvas (length (now (px .entry))) ok) canvas (now (px .entry)) (drawn (canvas .pitch) (canvas .clip) (strokeReach rect c) (strokeInk rect r width c) (now (px .entry))) d (now (px .exit)) ⌝ }
+    ensures { λ d. ⌜ ShapeCalled (shapeNumber canvas (length (now (px .entry))) ok) canvas (now (px .entry))
+        (drawn (canvas .pitch) (canvas .clip) (strokeReach rect c) (strokeInk rect r width c) (now (px .entry))) d
+        (now (px .exit)) ⌝ }
 {
     let number = canvas.shape_number(px.len(), ok);
     if number != 0 {
@@ -578,7 +587,9 @@ pub fn stroke_rrect(
     width: f32,
     color: Color,
 ) -> Counted
-    ensures { λ d. ⌜ ShapeCalled (shapeNumber canvas (length (now (px .entry))) (strokeOk rect r width)) canvas (now (px .entry)) (drawn (canvas .pitch) (canvas .clip) (strokeReach rect color) (strokeInk rect r width color) (now (px .entry))) d (now (px .exit)) ⌝ }
+    ensures { λ d. ⌜ ShapeCalled (shapeNumber canvas (length (now (px .entry))) (strokeOk rect r width)) canvas (now (px .entry))
+        (drawn (canvas .pitch) (canvas .clip) (strokeReach rect color) (strokeInk rect r width color) (now (px .entry))) d
+        (now (px .exit)) ⌝ }
 {
     let ok = rect.in_range() & floats_ok(r, width);
     outline(canvas, px, ok, rect, r, width, color)
@@ -594,7 +605,9 @@ pub fn ring(
     width: f32,
     color: Color,
 ) -> Counted
-    ensures { λ d. ⌜ ShapeCalled (shapeNumber canvas (length (now (px .entry))) (ringOk cx cy r width)) canvas (now (px .entry)) (drawn (canvas .pitch) (canvas .clip) (strokeReach (circleRect cx cy r) color) (strokeInk (circleRect cx cy r) r width color) (now (px .entry))) d (now (px .exit)) ⌝ }
+    ensures { λ d. ⌜ ShapeCalled (shapeNumber canvas (length (now (px .entry))) (ringOk cx cy r width)) canvas (now (px .entry))
+        (drawn (canvas .pitch) (canvas .clip) (strokeReach (circleRect cx cy r) color)
+        (strokeInk (circleRect cx cy r) r width color) (now (px .entry))) d (now (px .exit)) ⌝ }
 {
     let ok = floats_ok(cx, cy) & floats_ok(r, width);
     let rect = Rect::new(cx - r, cy - r, r * 2.0, r * 2.0);

@@ -1,4 +1,5 @@
--- The text of a picture: 8 upper-case hexadecimal digits for each pixel, then a newline at the end of a row, else a space. Assumes nothing.
+-- The text of a picture: 8 upper-case hexadecimal digits for each pixel, then a newline at the end of a row, else a space.
+-- Assumes nothing.
 use Prim.Native.Nat.{ℕ, zero, suc, _+_, _*_, _/_, _%_}
 use mathlib.Core.Bool.{cond}
 use mathlib.Core.List.{List, [], _∷_, _++_}

@@ -1,4 +1,5 @@
--- What is printed of a sheet: the pixels of its fresh painting, row by row, or the number and the item that painting refuses it with. Assumes nothing.
+-- What is printed of a sheet: the pixels of its fresh painting, row by row, or the number and the item that painting refuses it
+-- with. Assumes nothing.
 use Prim.Native.Nat.{ℕ, zero, suc, _+_, _*_, _/_, _%_, min}
 use mathlib.Core.Bool.{cond}
 use mathlib.Core.List.{List, [], _∷_, _++_}

@@ -62,7 +62,8 @@ fn put_picture(out: &mut [u8], px: &[u32], w: usize) -> usize
 // Paints a sheet on the pixels that it is lent, in rows that are as long as its canvas, and puts the text of what came of it.
 fn shown(s: &[u8], px: &mut [u32], scratch: &mut [f32], out: &mut [u8]) -> usize
     requires { ⌜ (9 * length (now px) ≤ length (now out)) × (33 ≤ length (now out)) ⌝ }
-    ensures { λ r. ⌜ Put (outcomeText (painting format (now (s .entry)) (widthOf (now (s .entry))) (length (now (px .entry))) (length (now (scratch .entry))))) (now (out .entry)) r (now (out .exit)) ⌝ }
+    ensures { λ r. ⌜ Put (outcomeText (painting format (now (s .entry)) (widthOf (now (s .entry))) (length (now (px .entry)))
+        (length (now (scratch .entry))))) (now (out .entry)) r (now (out .exit)) ⌝ }
 {
     let w = u16_at(s, 0);
     let a = paint(s, w, px, scratch).answer;
@@ -73,11 +74,12 @@ fn shown(s: &[u8], px: &mut [u32], scratch: &mut [f32], out: &mut [u8]) -> usize
     }
 }
 
-// Paints a sheet on as many of the pixels at hand as it has, and puts its text at the start of out, which has room for the text of all
-// pixels at hand and of any refusal. Returns the text's length.
+// Paints a sheet on as many of the pixels at hand as it has, and puts its text at the start of out, which has room for the text
+// of all pixels at hand and of any refusal. Returns the text's length.
 pub fn text(s: &[u8], px: &mut [u32], scratch: &mut [f32], out: &mut [u8]) -> usize
     requires { ⌜ (9 * length (now px) ≤ length (now out)) × (33 ≤ length (now out)) ⌝ }
-    ensures { λ r. ⌜ Put (textOf (now (s .entry)) (length (now (px .entry))) (length (now (scratch .entry)))) (now (out .entry)) r (now (out .exit)) ⌝ }
+    ensures { λ r. ⌜ Put (textOf (now (s .entry)) (length (now (px .entry))) (length (now (scratch .entry)))) (now (out .entry)) r
+        (now (out .exit)) ⌝ }
     ensures { λ r. ⌜ Counts r (now (out .exit)) ⌝ }
 {
     let k = lent(s, px.len());
