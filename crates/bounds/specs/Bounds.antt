@@ -37,8 +37,7 @@ widened e p = record {
   minx = minOf (e .minx) (p .x);
   miny = minOf (e .miny) (p .y);
   maxx = maxOf (e .maxx) (p .x);
-  maxy = maxOf
-      (e .maxy) (p .y);
+  maxy = maxOf (e .maxy) (p .y);
 }
 
 -- minx, miny, maxx and maxy over the first n points
