@@ -22,7 +22,7 @@ fn range_in(a: i32, b: i32, n: i32) -> bool
 }
 
 // A box lies in a canvas of the sides w and h.
-fn in_canvas(w: i32, h: i32, b: IRect) -> bool
+pub(crate) fn in_canvas(w: i32, h: i32, b: IRect) -> bool
     ensures { λ r. ⌜ r ≡ inCanvas w h b ⌝ }
 {
     range_in(b.x0, b.x1, w) && range_in(b.y0, b.y1, h)

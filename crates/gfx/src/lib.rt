@@ -5,6 +5,7 @@ pub mod points;
 
 use crate::checks::clip_ok;
 use crate::checks::four_zeros;
+use crate::checks::in_canvas;
 use crate::checks::new_number;
 use crate::checks::raise;
 use crate::checks::side_ok;
@@ -30,7 +31,7 @@ ghost use Rattle.color.specs.Colours.{pixOf};
 ghost use Rattle.draw.specs.Areas.{RowFits, AreaFits, drawnIn, area};
 ghost use Rattle.draw.specs.Frame.{framed};
 ghost use lib.IntN.{pos};
-ghost use Rattle.gfx.specs.State.{placeOk, placesOk, frameOk, validOf, freshOf, pushed, unsaved, popped};
+ghost use Rattle.gfx.specs.State.{inCanvas, placeOk, placesOk, frameOk, validOf, freshOf, pushed, unsaved, popped};
 ghost use Rattle.gfx.specs.Calls.{Called, answer, boxAnswer, pixelAnswer, raised, newNumber, resizeNumber, sameSize};
 ghost use Rattle.gfx.specs.Calls.{resized, resizedPx, stateNumber, pushBoxNumber, pushNumber, pxNumber, clearedTo};
 ghost use Rattle.gfx.specs.Calls.{shapeNumber, nearestIn, pixelAt};
@@ -167,6 +168,13 @@ impl Canvas {
         ensures { λ r. ⌜ r ≡ validOf self ⌝ }
     {
         self.frame_ok() && self.places_ok()
+    }
+
+    // Whether a box lies in the canvas.
+    pub fn has(self, b: IRect) -> bool
+        ensures { λ r. ⌜ r ≡ inCanvas (self .w) (self .h) b ⌝ }
+    {
+        in_canvas(self.w, self.h, b)
     }
 
     // The number that a call without pixels is refused with before it looks at its own arguments, or 0.

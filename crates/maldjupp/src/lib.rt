@@ -1,7 +1,8 @@
-// The static library for C and Rust: sheet calls, clip orders, the blend of one pixel, and canvas calls. A slice passes as a
-// pointer and a length, a struct by value.
+// The static library for C and Rust: sheet calls, clip orders, the blend of one pixel, canvas calls, and the panel's registers. A
+// slice passes as a pointer and a length, a struct by value.
 pub mod brush;
 pub mod canvas;
+pub mod registers;
 pub mod shapes;
 
 use color::BlendAnswer;

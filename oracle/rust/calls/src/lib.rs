@@ -42,6 +42,36 @@ pub mod raw {
         pub value: u32,
     }
 
+    /// The panel's eight bytes, and the box last loaded.
+    #[repr(C)]
+    #[derive(Clone, Copy, Debug, PartialEq)]
+    pub struct Panel {
+        pub regs: [u8; 8],
+        pub held: [i32; 4],
+    }
+
+    /// A box.
+    #[repr(C)]
+    #[derive(Clone, Copy)]
+    pub struct Area {
+        pub sides: [i32; 4],
+    }
+
+    /// What a write to the panel returns.
+    #[repr(C)]
+    pub struct Stepped {
+        pub number: u32,
+        pub panel: Panel,
+    }
+
+    /// What a take returns.
+    #[repr(C)]
+    pub struct Taken {
+        pub number: u32,
+        pub value: u32,
+        pub panel: Panel,
+    }
+
     #[repr(C)]
     #[derive(Clone, Copy)]
     pub struct Ink {
@@ -67,6 +97,10 @@ pub mod raw {
         pub fn maldjupp_resize(canvas: State, w: i32, h: i32, px: *mut u32, m: usize) -> Done;
         pub fn maldjupp_clear(canvas: State, px: *mut u32, m: usize, ink: Ink) -> Done;
         pub fn maldjupp_get(canvas: State, px: *const u32, m: usize, x: i32, y: i32) -> Pixel;
+        pub fn maldjupp_panel_fresh() -> Panel;
+        pub fn maldjupp_panel_command(panel: Panel, canvas: State, px: *const u32, m: usize, value: u8, area: Area) -> Stepped;
+        pub fn maldjupp_panel_flags(panel: Panel, canvas: State, px: *const u32, m: usize, value: u8) -> Stepped;
+        pub fn maldjupp_panel_take(panel: Panel, canvas: State, px: *const u32, m: usize) -> Taken;
     }
 }
 
