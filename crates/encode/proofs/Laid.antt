@@ -36,7 +36,7 @@ Sound [] depth = Unit {0}
 Sound (b ∷ bs) depth = (itemNumber b 0 (length b) depth ≡ 0) × (4 ≤ length b) × Sound bs (depthAfter (kindAt b 0) depth)
 
 -- a number below 65,536 from its two bytes
-two-bytes : (n : ℕ) → n < 65536 → n % 256 + 256 * (n / 256 % 256) ≡ n
+pub two-bytes : (n : ℕ) → n < 65536 → n % 256 + 256 * (n / 256 % 256) ≡ n
 two-bytes n h = omega arith
 
 module _ (s : List ℕ) (small : length s ≤ 60000) where

@@ -1,181 +1,292 @@
 -- What accepted takes hand over is the box, row by row (specs/Lists): at every place of a list, what was handed over and then
--- what is still to come is the box. Assumes nothing.
-use Prim.Native.Nat.{ℕ, _+_, _-_, _*_, _%_, _≤_, _<_}
+-- what remains is the box. Assumes nothing.
+use Prim.Native.Nat.{ℕ, suc, _+_, _-_, _*_, _%_, _≤_, _<_}
 use mathlib.Core.Bool.{Bool, true, false, cond, false≢true}
 use mathlib.Core.List.{List, [], _∷_, _++_, append-nil}
 use mathlib.Core.Path.{_≡_, refl, sym, ap, _∙_}
 use native.Mathlib.Omega.{arith}
-use borrow.Author.Tests.{eqb-true}
-use lib.Dec.{eqb}
-use lib.ListN.{length}
+use borrow.Author.Tests.{eqb-true, eq-eqb, lt-ltb, le-ltb}
+use lib.Dec.{ltb, eqb}
+use lib.ListN.{length, take, length-append}
 use lib.Seq.{take-append-seam, append-snoc}
 use Rattle.geom.specs.Int.{up}
 use Rattle.geom.specs.Box.{empty, noBox}
+use Rattle.geom.specs.Refusals.{andThen}
 use Rattle.geom.specs.declared.IRect.{IRect}
 use Rattle.geom.proofs.Bools.{split}
+use Rattle.gfx.specs.Calls.{pxNumber}
 use Rattle.gfx.specs.declared.Canvas.{Canvas}
+use Rattle.gfx.proofs.Sizes.{Open, open-number}
 use Rattle.panel.specs.declared.Panel.{Panel}
-use Rattle.panel.specs.Registers.{flagsOf, column, row, left, ready, freshPanel, panelOf, finished, atRow, loaded, lowered}
-use Rattle.panel.specs.Registers.{along, moved, commandNumber, flagsNumber, takeNumber, pixelIn}
-use Rattle.panel.specs.Lists.{Step, command, flags, takes, leaves, Does, Follows, endOf, Haul, hauled, after, haul}
-use Rattle.panel.specs.Lists.{pixelsOf, FirstOf, Panels}
-use Rattle.panel.proofs.Places.{column-of, row-of, left-of, Spot, along-spot, Full, row-spot, loads-full, Standing}
+use Rattle.panel.specs.declared.Taken.{Taken}
+use Rattle.panel.specs.Registers.{flagsOf, column, row, pixelsLeft, ready, freshPanel, panelOf, panelOk, panelNumber}
+use Rattle.panel.specs.Registers.{commandNumber, flagsNumber, takeNumber, widthOf, finished, rowStart, loaded, acknowledged}
+use Rattle.panel.specs.Registers.{nextColumn, movedOn, pixelIn, Takes}
+use Rattle.panel.specs.Lists.{Step, command, flags, takes, panelAfter, Does, Follows, endOf, Transfer, begun}
+use Rattle.panel.specs.Lists.{withPixel, afterStep, afterSteps, transferOf, pixelsOf, sizeOf, ownNumber, Transfers, Panels}
+use Rattle.panel.proofs.Places.{column-of, row-of, left-of, Place, next-place, Inner, row-place, Underway, loading}
 use Rattle.panel.proofs.Places.{ready-by, not-ready, taking, pixel-inside, moves}
-use Rattle.panel.proofs.Coming.{coming, coming-all, coming-more, coming-next, coming-last, none-of}
-use Rattle.panel.proofs.Kept.{lowered-ready, lowered-column, lowered-row, lowered-left, lowered-held, kept, in-order}
-use Rattle.panel.proofs.Kept.{fresh-ok}
+use Rattle.panel.proofs.Remaining.{none-of, no-size, size-of, remaining, remaining-all, remaining-more, remaining-row}
+use Rattle.panel.proofs.Remaining.{remaining-last}
+use Rattle.panel.proofs.Kept.{acknowledged-ready, acknowledged-column, acknowledged-row, acknowledged-left}
+use Rattle.panel.proofs.Kept.{acknowledged-held, ok-taken, numberIn, number-is, kept, stays, fresh-ok}
 
--- what was handed over, and then what is still to come, is the box
-record Going (c : Canvas) (px : List ℕ) (p : Panel) (t : Haul) : Type 0 where
-  to-come : List ℕ
-  whole : t .pixels ++ to-come ≡ pixelsOf px (c .pitch) (t .box)
-  done : ready p ≡ false → to-come ≡ []
-  here : ready p ≡ true → (to-come ≡ coming px (c .pitch) (column p) (row p) (left p) (p .held)) × (t .box ≡ p .held)
+-- with a pixel ready: state and px are not refused, and what remains begins at the place, in the box that is held
+record Here (c : Canvas) (px : List ℕ) (p : Panel) (t : Transfer) (rest : List ℕ) : Type 0 where
+  lent : Open c (length px)
+  box : t .box ≡ p .held
+  from : rest ≡ remaining px (c .pitch) (column p) (row p) (pixelsLeft p) (p .held)
+
+-- what was handed over, and then what remains, is the box
+record Progress (c : Canvas) (px : List ℕ) (p : Panel) (t : Transfer) : Type 0 where
+  rest : List ℕ
+  whole : t .pixels ++ rest ≡ pixelsOf px (c .pitch) (t .box)
+  size : length (pixelsOf px (c .pitch) (t .box)) ≡ sizeOf (t .box)
+  done : ready p ≡ false → rest ≡ []
+  here : ready p ≡ true → Here c px p t rest
 
 module _ (c : Canvas) (px : List ℕ) where
-  -- a place that was written, with all that is to come from there
-  at-spot : (f x y l : ℕ) (b : IRect) (t : Haul) → eqb (f % 2) 1 ≡ true → Full c b → Spot b x y l → t .box ≡ b
-      → t .pixels ++ coming px (c .pitch) x y l b ≡ pixelsOf px (c .pitch) (t .box) → Going c px (panelOf f x y l b) t
-  at-spot f x y l b t k h s e g =
+  abbrev n : ℕ
+  n = length px
+
+  -- a place that was written, with all that remains from there
+  at-place : (f x y l : ℕ) (b : IRect) (t : Transfer) → eqb (f % 2) 1 ≡ true → Open c n → Inner c b → Place b x y l → t .box ≡ b
+      → length (pixelsOf px (c .pitch) (t .box)) ≡ sizeOf (t .box)
+      → t .pixels ++ remaining px (c .pitch) x y l b ≡ pixelsOf px (c .pitch) (t .box) → Progress c px (panelOf f x y l b) t
+  at-place f x y l b t k o h s e z g =
       record {
-        to-come = coming px (c .pitch) x y l b;
+        rest = remaining px (c .pitch) x y l b;
         whole = g;
-        done = λ z. absurd (false≢true (sym z ∙ ready-by (panelOf f x y l b) ∙ k));
-        here = λ z. (rw (column-of f x y l b (omega arith), row-of f x y l b (omega arith), left-of f x y l b (omega arith)), e);
+        size = z;
+        done = λ q. absurd (false≢true (sym q ∙ ready-by (panelOf f x y l b) ∙ k));
+        here = λ q. record {
+            lent = o;
+            box = e;
+            from = rw (column-of f x y l b (omega arith), row-of f x y l b (omega arith), left-of f x y l b (omega arith));
+          };
       }
 
-  at-row : (f y : ℕ) (b : IRect) (t : Haul) → eqb (f % 2) 1 ≡ true → Full c b
-      → Spot b (up (b .x0)) y (up (b .x1) - up (b .x0)) → t .box ≡ b
-      → t .pixels ++ coming px (c .pitch) (up (b .x0)) y (up (b .x1) - up (b .x0)) b ≡ pixelsOf px (c .pitch) (t .box)
-      → Going c px (atRow f y b) t
-  unfolding atRow
-  at-row f y b t k h s e g = at-spot f (up (b .x0)) y (up (b .x1) - up (b .x0)) b t k h s e g
+  at-row : (f y : ℕ) (b : IRect) (t : Transfer) → eqb (f % 2) 1 ≡ true → Open c n → Inner c b
+      → Place b (up (b .x0)) y (widthOf b) → t .box ≡ b → length (pixelsOf px (c .pitch) (t .box)) ≡ sizeOf (t .box)
+      → t .pixels ++ remaining px (c .pitch) (up (b .x0)) y (widthOf b) b ≡ pixelsOf px (c .pitch) (t .box)
+      → Progress c px (rowStart f y b) t
+  unfolding rowStart
+  at-row f y b t k o h s e z g = at-place f (up (b .x0)) y (widthOf b) b t k o h s e z g
 
   -- no pixel is ready
-  at-end : (b : IRect) (t : Haul) → t .pixels ++ [] ≡ pixelsOf px (c .pitch) (t .box) → Going c px (finished b) t
-  at-end b t g = record { to-come = []; whole = g; done = λ z. refl; here = λ z. absurd (not-ready b z) }
+  at-end : (b : IRect) (t : Transfer) → length (pixelsOf px (c .pitch) (t .box)) ≡ sizeOf (t .box)
+      → t .pixels ++ [] ≡ pixelsOf px (c .pitch) (t .box) → Progress c px (finished b) t
+  at-end b t z g = record { rest = []; whole = g; size = z; done = λ q. refl; here = λ q. absurd (not-ready b q) }
+
+  -- an empty box was loaded, or none yet
+  empty-size : (b : IRect) → empty b ≡ true → length (pixelsOf px (c .pitch) b) ≡ sizeOf b
+  empty-size b q = rw (none-of px (c .pitch) b q, no-size b q)
 
   -- ---- a load
 
-  going-load : (p : Panel) (v : ℕ) (b : IRect) → commandNumber c (length px) p v b ≡ 0 → Going c px (loaded b) (hauled b [])
+  at-load : (p : Panel) (v : ℕ) (b : IRect) → commandNumber c n p v b ≡ 0 → Progress c px (loaded b) (begun b)
   unfolding loaded
-  going-load p v b e =
-      split (empty b) (λ t. Going c px (cond t (finished b) (atRow 1 (up (b .y0)) b)) (hauled b []))
-      (λ q. at-end b (hauled b []) (sym (none-of px (c .pitch) b q)))
-      (λ q. let h = loads-full c (length px) p v b e q in
-      let spot = row-spot h (up (b .y0)) (omega arith) (h .down) in
-      at-row 1 (up (b .y0)) b (hauled b []) refl h spot refl (coming-all px (c .pitch) b (h .down)))
+  at-load p v b e =
+      split (empty b) (λ t. Progress c px (cond t (finished b) (rowStart 1 (up (b .y0)) b)) (begun b))
+      (λ q. at-end b (begun b) (empty-size b q) (sym (none-of px (c .pitch) b q)))
+      (λ q. let o = loading c n p v b e .0 in
+      let h = loading c n p v b e .1 q in
+      let place = row-place h (up (b .y0)) (omega arith) (h .down) in
+      at-row 1 (up (b .y0)) b (begun b) refl o h place refl (size-of c px b o h) (remaining-all px (c .pitch) b (h .down)))
 
   -- ---- a flag write
 
-  going-flags : (p : Panel) (t : Haul) → Going c px p t → Going c px (lowered p) t
-  going-flags p t g =
+  at-flags : (p : Panel) (t : Transfer) → Progress c px p t → Progress c px (acknowledged p) t
+  at-flags p t g =
       record {
-        to-come = g .to-come;
+        rest = g .rest;
         whole = g .whole;
-        done = λ z. g .done (sym (lowered-ready p) ∙ z);
-        here = λ z. rw (lowered-column p, lowered-row p, lowered-left p, lowered-held p) (g .here (sym (lowered-ready p) ∙ z));
+        size = g .size;
+        done = λ q. g .done (sym (acknowledged-ready p) ∙ q);
+        here = λ q. let h = g .here (sym (acknowledged-ready p) ∙ q) in record {
+            lent = h .lent;
+            box = h .box ∙ sym (acknowledged-held p);
+            from = rw (acknowledged-column p, acknowledged-row p, acknowledged-left p, acknowledged-held p) (h .from);
+          };
       }
 
   -- ---- a take
 
-  module _ (p : Panel) (t : Haul) (e : takeNumber c (length px) p ≡ 0) (g : Going c px p t) where
+  module _ (p : Panel) (t : Transfer) (e : takeNumber c n p ≡ 0) (g : Progress c px p t) where
     abbrev v : ℕ
     v = pixelIn c px p
 
     abbrev b : IRect
     b = p .held
 
-    abbrev next : Haul
-    next = hauled (t .box) (t .pixels ++ (v ∷ []))
+    abbrev next : Transfer
+    next = withPixel t v
 
-    s : Standing c p
-    s = taking c (length px) p e .0 .1
+    s : Underway c p
+    s = taking c n p e .0 .1
 
     lit : eqb (flagsOf p % 2) 1 ≡ true
-    lit = sym (ready-by p) ∙ taking c (length px) p e .1
+    lit = sym (ready-by p) ∙ taking c n p e .1
 
-    in-px : row p * c .pitch + column p < length px
-    in-px = pixel-inside c (length px) p e
+    in-px : row p * c .pitch + column p < n
+    in-px = pixel-inside c n p e
 
-    came : (g .to-come ≡ coming px (c .pitch) (column p) (row p) (left p) b) × (t .box ≡ b)
-    came = g .here (taking c (length px) p e .1)
+    came : Here c px p t (g .rest)
+    came = g .here (taking c n p e .1)
 
-    -- the pixel, and what is to come after it
-    one : (tail : List ℕ) → coming px (c .pitch) (column p) (row p) (left p) b ≡ v ∷ tail
+    -- the pixel, and what remains after it
+    one : (tail : List ℕ) → remaining px (c .pitch) (column p) (row p) (pixelsLeft p) b ≡ v ∷ tail
         → t .pixels ++ (v ∷ []) ++ tail ≡ pixelsOf px (c .pitch) (t .box)
-    one tail q = append-snoc (t .pixels) v tail ∙ ap (λ (l : List ℕ). t .pixels ++ l) (sym q ∙ sym (came .0)) ∙ g .whole
+    one tail q = append-snoc (t .pixels) v tail ∙ ap (λ (l : List ℕ). t .pixels ++ l) (sym q ∙ sym (came .from)) ∙ g .whole
 
-    going-along : 1 < left p → Going c px (along p) next
-    unfolding along pixelIn
-    going-along h =
-        at-spot (flagsOf p) (column p + 1) (row p) (left p - 1) b next lit (s .full) (along-spot (s .spot) h) (came .1)
-        (one _ (coming-more px (c .pitch) (column p) (row p) (left p) b in-px (left p - 1) (omega arith)))
+    take-along : 1 < pixelsLeft p → Progress c px (nextColumn p) next
+    unfolding nextColumn pixelIn
+    take-along h =
+        at-place (flagsOf p) (column p + 1) (row p) (pixelsLeft p - 1) b next lit (came .lent) (s .inner) (next-place (s .place) h)
+        (came .box) (g .size)
+        (one _ (remaining-more px (c .pitch) (column p) (row p) (pixelsLeft p) b in-px (pixelsLeft p - 1) (omega arith)))
 
-    going-down : left p ≡ 1 → row p + 1 < up (b .y1) → Going c px (atRow (flagsOf p) (row p + 1) b) next
+    take-row : pixelsLeft p ≡ 1 → row p + 1 < up (b .y1) → Progress c px (rowStart (flagsOf p) (row p + 1) b) next
     unfolding pixelIn
-    going-down h k =
-        let spot = row-spot (s .full) (row p + 1) (omega (arith, s .spot .top)) k in
-        at-row (flagsOf p) (row p + 1) b next lit (s .full) spot (came .1)
-        (one _ (coming-next px (c .pitch) (column p) (row p) (left p) b in-px h k))
+    take-row h k =
+        let place = row-place (s .inner) (row p + 1) (omega (arith, s .place .top)) k in
+        at-row (flagsOf p) (row p + 1) b next lit (came .lent) (s .inner) place (came .box) (g .size)
+        (one _ (remaining-row px (c .pitch) (column p) (row p) (pixelsLeft p) b in-px h k))
 
-    going-last : left p ≡ 1 → up (b .y1) ≤ row p + 1 → Going c px (finished b) next
+    take-last : pixelsLeft p ≡ 1 → up (b .y1) ≤ row p + 1 → Progress c px (finished b) next
     unfolding pixelIn
-    going-last h k = at-end b next (one [] (coming-last px (c .pitch) (column p) (row p) (left p) b in-px h k))
+    take-last h k =
+        at-end b next (g .size) (one [] (remaining-last px (c .pitch) (column p) (row p) (pixelsLeft p) b in-px h k))
 
-    going-take : Going c px (moved p) next
-    going-take = moves p s (λ q. Going c px q next) going-along going-down going-last
+    at-take : Progress c px (movedOn p) next
+    at-take = moves p s (λ q. Progress c px q next) take-along take-row take-last
+
+    -- a take after which no pixel is ready finishes the box
+    finishes : ready (movedOn p) ≡ false → movedOn p ≡ finished b
+    unfolding nextColumn rowStart
+    finishes =
+        moves p s (λ q. ready q ≡ false → q ≡ finished b)
+        (λ h q. absurd (false≢true (sym q ∙ ready-by (nextColumn p) ∙ lit)))
+        (λ h k q. absurd (false≢true (sym q ∙ ready-by (rowStart (flagsOf p) (row p + 1) b) ∙ lit))) (λ h k q. refl)
 
   -- ---- a list
 
-  one-step : (p : Panel) (t : Haul) (s : Step) → Going c px p t → Does c px p s → Going c px (leaves s) (after t s)
-  unfolding Does leaves after
-  one-step p t (command v b r) g d = rw d (go (eqb (commandNumber c (length px) p v b) 0) refl)
+  one-step : (p : Panel) (t : Transfer) (s : Step) → Progress c px p t → Does c px p s → Progress c px (panelAfter s) (afterStep t s)
+  unfolding Does panelAfter afterStep
+  one-step p t (command v b r) g d = rw d (go (eqb (commandNumber c n p v b) 0) refl)
     where
-      go : (z : Bool) → eqb (commandNumber c (length px) p v b) 0 ≡ z → Going c px (cond z (loaded b) p) (cond z (hauled b []) t)
-      go true q = going-load p v b (eqb-true _ 0 q)
+      go : (z : Bool) → eqb (commandNumber c n p v b) 0 ≡ z → Progress c px (cond z (loaded b) p) (cond z (begun b) t)
+      go true q = at-load p v b (eqb-true _ 0 q)
       go false q = g
-  one-step p t (flags v r) g d = rw d (go (eqb (flagsNumber c (length px) p v) 0))
+  one-step p t (flags v r) g d = rw d (go (eqb (flagsNumber c n p v) 0))
     where
-      go : (z : Bool) → Going c px (cond z (lowered p) p) t
-      go true = going-flags p t g
+      go : (z : Bool) → Progress c px (cond z (acknowledged p) p) t
+      go true = at-flags p t g
       go false = g
-  one-step p t (takes r) g d = rw d (go (eqb (takeNumber c (length px) p) 0) refl)
+  one-step p t (takes r) g d = rw d (go (eqb (takeNumber c n p) 0) refl)
     where
-      go : (z : Bool) → eqb (takeNumber c (length px) p) 0 ≡ z
-          → Going c px (cond z (moved p) p) (cond z (hauled (t .box) (t .pixels ++ (cond z (pixelIn c px p) 0 ∷ []))) t)
-      go true q = going-take p t (eqb-true _ 0 q) g
+      go : (z : Bool) → eqb (takeNumber c n p) 0 ≡ z
+          → Progress c px (cond z (movedOn p) p) (cond z (withPixel t (cond z (pixelIn c px p) 0)) t)
+      go true q = at-take p t (eqb-true _ 0 q) g
       go false q = g
 
-  all-steps : (p : Panel) (t : Haul) (ss : List Step) → Going c px p t → Follows c px p ss → Going c px (endOf p ss) (haul t ss)
-  unfolding Follows endOf haul
-  all-steps p t [] g f = g
-  all-steps p t (s ∷ ss) g f = all-steps (leaves s) (after t s) ss (one-step p t s g (f .0)) (f .1)
+  all-steps : (p : Panel) (t : Transfer) (ss : List Step) → panelOk c p ≡ true → Progress c px p t → Follows c px p ss
+      → (panelOk c (endOf p ss) ≡ true) × Progress c px (endOf p ss) (afterSteps t ss)
+  unfolding Follows endOf afterSteps
+  all-steps p t [] o g f = (o, g)
+  all-steps p t (s ∷ ss) o g f =
+      all-steps (panelAfter s) (afterStep t s) ss (stays c px p s (f .0) o) (one-step p t s g (f .0)) (f .1)
 
-  from-fresh : Going c px freshPanel (hauled noBox [])
+  from-fresh : Progress c px freshPanel (begun noBox)
   unfolding freshPanel ready empty noBox
   from-fresh =
       record {
-        to-come = [];
+        rest = [];
         whole = sym (none-of px (c .pitch) noBox refl);
-        done = λ z. refl;
-        here = λ z. absurd (false≢true z);
+        size = empty-size noBox refl;
+        done = λ q. refl;
+        here = λ q. absurd (false≢true q);
       }
 
-  from-start : (ss : List Step) → Follows c px freshPanel ss → Going c px (endOf freshPanel ss) (haul (hauled noBox []) ss)
-  from-start ss f = all-steps freshPanel (hauled noBox []) ss from-fresh f
+  -- ---- what is claimed where a list stands
 
-  first-of : {p : Panel} {t : Haul} → Going c px p t → FirstOf px (c .pitch) t
-  first-of {p} {t} g = rw (← g .whole) (sym (take-append-seam (t .pixels) (g .to-come)))
+  module _ (p : Panel) (t : Transfer) (o : panelOk c p ≡ true) (g : Progress c px p t) where
+    ready-number : ready p ≡ true → takeNumber c n p ≡ 0
+    unfolding takeNumber panelNumber
+    ready-number q = rw (o, open-number (g .here q .lent), q)
 
-  all-of : {p : Panel} {t : Haul} → Going c px p t → ready p ≡ false → t .pixels ≡ pixelsOf px (c .pitch) (t .box)
-  all-of {p} {t} g z = sym (append-nil (t .pixels)) ∙ ap (λ (l : List ℕ). t .pixels ++ l) (sym (g .done z)) ∙ g .whole
+    some-rest : ready p ≡ true → 0 < length (g .rest)
+    some-rest q =
+        let h = g .here q in
+        let e = ready-number q in
+        let s = taking c n p e .0 .1 in
+        let k = pixelsLeft p - 1 in
+        let more = remaining-more px (c .pitch) (column p) (row p) (pixelsLeft p) (p .held) (pixel-inside c n p e) k
+            (omega (arith, s .place .rest, s .place .upto)) in
+        rw (h .from, more) (omega arith)
+
+    total : length (t .pixels) + length (g .rest) ≡ sizeOf (t .box)
+    total = sym (length-append (t .pixels) (g .rest)) ∙ ap length (g .whole) ∙ g .size
+
+    -- a pixel is ready just while fewer were handed over than the box has
+    ready-is : ready p ≡ ltb (length (t .pixels)) (sizeOf (t .box))
+    ready-is =
+        split (ready p) (λ z. z ≡ ltb (length (t .pixels)) (sizeOf (t .box)))
+        (λ q. sym (lt-ltb (length (t .pixels)) (sizeOf (t .box)) (more q)))
+        (λ q. sym (le-ltb (length (t .pixels)) (sizeOf (t .box)) (none q)))
+      where
+        more : ready p ≡ true → length (t .pixels) < sizeOf (t .box)
+        more q = omega (arith, total, some-rest q)
+
+        none : ready p ≡ false → sizeOf (t .box) ≤ length (t .pixels)
+        none q = let z : length (g .rest) ≡ 0 = ap length (g .done q) in omega (arith, total, z)
+
+    first-of : t .pixels ≡ take (length (t .pixels)) (pixelsOf px (c .pitch) (t .box))
+    first-of = rw (← g .whole) (sym (take-append-seam (t .pixels) (g .rest)))
+
+    all-of : length (t .pixels) ≡ sizeOf (t .box) → t .pixels ≡ pixelsOf px (c .pitch) (t .box)
+    all-of e =
+        let full : sizeOf (t .box) ≤ length (t .pixels) = omega (arith, e) in
+        let q = ready-is ∙ le-ltb (length (t .pixels)) (sizeOf (t .box)) full in
+        sym (append-nil (t .pixels)) ∙ ap (λ (l : List ℕ). t .pixels ++ l) (sym (g .done q)) ∙ g .whole
+
+    numbered : (s : Step) → numberIn c n p s ≡ andThen (pxNumber c n) (ownNumber c t s)
+    unfolding numberIn ownNumber commandNumber flagsNumber takeNumber panelNumber
+    numbered (command v b r) = rw o
+    numbered (flags v r) = rw o
+    numbered (takes r) = rw (o, ready-is)
+
+  -- the take that hands over the last pixel
+  ends : (p : Panel) (t : Transfer) → Progress c px p t → takeNumber c n p ≡ 0 → suc (length (t .pixels)) ≡ sizeOf (t .box)
+      → movedOn p ≡ finished (t .box)
+  ends p t g e k =
+      let v = pixelIn c px p in
+      let grown : length (t .pixels ++ (v ∷ [])) ≡ length (t .pixels) + 1 = length-append (t .pixels) (v ∷ []) in
+      let full : sizeOf (t .box) ≤ length (t .pixels ++ (v ∷ [])) = omega (arith, grown, k) in
+      let r = ready-is (movedOn p) (withPixel t v) (ok-taken c n p e) (at-take p t e g) in
+      let q = r ∙ le-ltb (length (t .pixels ++ (v ∷ []))) (sizeOf (t .box)) full in
+      finishes p t e g q ∙ ap finished (sym (g .here (taking c n p e .1) .box))
+
+  last-take : (p : Panel) (t : Transfer) → Progress c px p t → (r : Taken) → Takes c px p r → r .number ≡ 0
+      → suc (length (t .pixels)) ≡ sizeOf (t .box) → r .panel ≡ finished (t .box)
+  last-take p t g r d e k =
+      let z : takeNumber c n p ≡ 0 = rw d at e in
+      rw (d, eq-eqb (takeNumber c n p) 0 z) (ends p t g z k)
+
+transfers : (c : Canvas) (px : List ℕ) (p : Panel) (t : Transfer) → panelOk c p ≡ true → Progress c px p t → Transfers c px p t
+transfers c px p t o g =
+    record {
+      handed = first-of c px p t o g;
+      all = all-of c px p t o g;
+      ordered = o;
+      numbers = λ s d. number-is c px p s d ∙ numbered c px p t o g s;
+      last = last-take c px p t g;
+    }
 
 pub panels : Panels
 panels =
     record {
-      handed = λ c px ss f. first-of c px (from-start c px ss f);
-      all = λ c px ss f z. all-of c px (from-start c px ss f) z;
+      lists = λ c px ss f. let both = all-steps c px freshPanel (begun noBox) ss (fresh-ok c) (from-fresh c px) f in
+        transfers c px (endOf freshPanel ss) (transferOf ss) (both .0) (both .1);
       kept = kept;
-      ordered = λ c px ss f. in-order c px freshPanel ss (fresh-ok c) f;
     }

@@ -2,7 +2,7 @@
 -- returns. Assumes nothing.
 use Prim.Native.Nat.{ℕ, _+_, _-_, _*_, _/_, _%_}
 use mathlib.Core.Bool.{Bool, cond, not, _&&_, _||_}
-use mathlib.Core.List.{List, [], _∷_}
+use mathlib.Core.List.{List, _∷_, _++_}
 use mathlib.Core.Path.{_≡_}
 use lib.Dec.{ltb, eqb}
 use lib.IntN.{pos}
@@ -11,6 +11,8 @@ use Rattle.geom.specs.Int.{up}
 use Rattle.geom.specs.Box.{inside, empty, noBox}
 use Rattle.geom.specs.Refusals.{unless, andThen}
 use Rattle.geom.specs.declared.IRect.{IRect}
+use Rattle.sheet.specs.Bytes.{byteAt, u16At}
+use Rattle.encode.specs.Encode.{u16}
 use Rattle.gfx.specs.State.{inCanvas}
 use Rattle.gfx.specs.Calls.{pxNumber}
 use Rattle.gfx.specs.declared.Canvas.{Canvas}
@@ -20,24 +22,20 @@ use Rattle.panel.specs.declared.Taken.{Taken}
 
 -- ---- "eight bytes: 0 command, 1 flags, 2-3 column, 4-5 row, 6-7 pixels left in this row, little-endian"
 
--- the two bytes from a place on, the lower first
-abbrev pub u16In : List ℕ → ℕ → ℕ
-u16In regs at = getD regs at 0 + 256 * getD regs (at + 1) 0
-
 abbrev pub commandOf : Panel → ℕ
-commandOf p = getD (p .regs) 0 0
+commandOf p = byteAt (p .regs) 0
 
 abbrev pub flagsOf : Panel → ℕ
-flagsOf p = getD (p .regs) 1 0
+flagsOf p = byteAt (p .regs) 1
 
 unfoldable pub column : Panel → ℕ
-column p = u16In (p .regs) 2
+column p = u16At (p .regs) 2
 
 unfoldable pub row : Panel → ℕ
-row p = u16In (p .regs) 4
+row p = u16At (p .regs) 4
 
-unfoldable pub left : Panel → ℕ
-left p = u16In (p .regs) 6
+unfoldable pub pixelsLeft : Panel → ℕ
+pixelsLeft p = u16At (p .regs) 6
 
 -- "flag bit 0, pixel ready"
 unfoldable pub ready : Panel → Bool
@@ -49,7 +47,7 @@ freshPanel = record { regs = replicate 8 0; held = noBox }
 
 -- the bytes of flags, column, row and pixels left: "The command byte reads 0 always"
 abbrev pub regsOf : ℕ → ℕ → ℕ → ℕ → List ℕ
-regsOf f x y l = 0 ∷ f ∷ x % 256 ∷ x / 256 % 256 ∷ y % 256 ∷ y / 256 % 256 ∷ l % 256 ∷ l / 256 % 256 ∷ []
+regsOf f x y l = 0 ∷ f ∷ (u16 x ++ (u16 y ++ u16 l))
 
 abbrev pub panelOf : ℕ → ℕ → ℕ → ℕ → IRect → Panel
 panelOf f x y l b = record { regs = regsOf f x y l; held = b }
@@ -60,18 +58,19 @@ panelOf f x y l b = record { regs = regsOf f x y l; held = b }
 unfoldable pub placeIn : IRect → ℕ → ℕ → ℕ → Bool
 placeIn b x y l = inside b (pos x) (pos y) && eqb (x + l) (up (b .x1))
 
--- the held box is not empty, is inside the canvas, and has the place
-unfoldable pub placeOk : Canvas → Panel → Bool
-placeOk c p = not (empty (p .held)) && inCanvas (c .w) (c .h) (p .held) && placeIn (p .held) (column p) (row p) (left p)
+-- what is asked of a transfer under way: the held box is not empty and does not leave the canvas, and it has the place
+unfoldable pub transferOk : Canvas → Panel → Bool
+transferOk c p =
+    not (empty (p .held)) && inCanvas (c .w) (c .h) (p .held) && placeIn (p .held) (column p) (row p) (pixelsLeft p)
 
 -- no bit but 0 and 7 is set
 unfoldable pub flagsOk : ℕ → Bool
 flagsOk f = eqb (f / 2 % 64) 0
 
--- "Registers are refused by 12 if the command isn't 0, a flag other than bits 0 and 7 is set, or, with bit 0 set," the place is
--- not as above
+-- "Registers are refused by 12 if the command isn't 0, a flag other than bits 0 and 7 is set, or, with bit 0 set," the transfer
+-- is not as above
 unfoldable pub panelOk : Canvas → Panel → Bool
-panelOk c p = eqb (commandOf p) 0 && flagsOk (flagsOf p) && (not (ready p) || placeOk c p)
+panelOk c p = eqb (commandOf p) 0 && flagsOk (flagsOf p) && (not (ready p) || transferOk c p)
 
 -- every step on n lent words: 12 for the registers or the state, then 15 and 8
 unfoldable pub panelNumber : Canvas → ℕ → Panel → ℕ
@@ -96,34 +95,41 @@ flagsNumber c n p v = stepNumber c n p (eqb v 128) 21
 unfoldable pub takeNumber : Canvas → ℕ → Panel → ℕ
 takeNumber c n p = stepNumber c n p (ready p) 22
 
--- ---- the registers after a step
+-- ---- the panel after a step
+
+-- the columns and the rows of a box
+abbrev pub widthOf : IRect → ℕ
+widthOf b = up (b .x1) - up (b .x0)
+
+abbrev pub heightOf : IRect → ℕ
+heightOf b = up (b .y1) - up (b .y0)
 
 -- bytes 2 to 7 zero, and bit 7 alone set: "finished", and after the last take "the interrupt"
 unfoldable pub finished : IRect → Panel
 finished b = panelOf 128 0 0 0 b
 
 -- the first pixel of row y of a box, with flags f
-unfoldable pub atRow : ℕ → ℕ → IRect → Panel
-atRow f y b = panelOf f (up (b .x0)) y (up (b .x1) - up (b .x0)) b
+unfoldable pub rowStart : ℕ → ℕ → IRect → Panel
+rowStart f y b = panelOf f (up (b .x0)) y (widthOf b) b
 
 -- "clears the flags, loads its corner and width and sets flag bit 0"; "an empty box, held as given, zeroes bytes 2-7 and sets bit
 -- 7, finished, instead"
 unfoldable pub loaded : IRect → Panel
-loaded b = cond (empty b) (finished b) (atRow 1 (up (b .y0)) b)
+loaded b = cond (empty b) (finished b) (rowStart 1 (up (b .y0)) b)
 
 -- "Writing 128 to the flags clears bit 7"
-unfoldable pub lowered : Panel → Panel
-lowered p = record { regs = set (p .regs) 1 (flagsOf p % 128); held = p .held }
+unfoldable pub acknowledged : Panel → Panel
+acknowledged p = record { regs = set (p .regs) 1 (flagsOf p % 128); held = p .held }
 
 -- one column further
-unfoldable pub along : Panel → Panel
-along p = panelOf (flagsOf p) (column p + 1) (row p) (left p - 1) (p .held)
+unfoldable pub nextColumn : Panel → Panel
+nextColumn p = panelOf (flagsOf p) (column p + 1) (row p) (pixelsLeft p - 1) (p .held)
 
 -- a take "moves on, row by row": along the row, to the next row, or "The last take clears bit 0, zeroes bytes 2-7 and sets bit 7"
-unfoldable pub moved : Panel → Panel
-moved p =
-    cond (ltb 1 (left p)) (along p)
-    (cond (ltb (row p + 1) (up (p .held .y1))) (atRow (flagsOf p) (row p + 1) (p .held)) (finished (p .held)))
+unfoldable pub movedOn : Panel → Panel
+movedOn p =
+    cond (ltb 1 (pixelsLeft p)) (nextColumn p)
+    (cond (ltb (row p + 1) (up (p .held .y1))) (rowStart (flagsOf p) (row p + 1) (p .held)) (finished (p .held)))
 
 -- "the pixel at column and row"
 unfoldable pub pixelIn : Canvas → List ℕ → Panel → ℕ
@@ -141,7 +147,7 @@ abbrev pub WritesCommand : Canvas → List ℕ → Panel → ℕ → IRect → S
 WritesCommand c px p v b r = r ≡ stepped (commandNumber c (length px) p v b) p (loaded b)
 
 abbrev pub WritesFlags : Canvas → List ℕ → Panel → ℕ → Stepped → Type 0
-WritesFlags c px p v r = r ≡ stepped (flagsNumber c (length px) p v) p (lowered p)
+WritesFlags c px p v r = r ≡ stepped (flagsNumber c (length px) p v) p (acknowledged p)
 
 abbrev pub Takes : Canvas → List ℕ → Panel → Taken → Type 0
-Takes c px p r = r ≡ taken (takeNumber c (length px) p) (pixelIn c px p) p (moved p)
+Takes c px p r = r ≡ taken (takeNumber c (length px) p) (pixelIn c px p) p (movedOn p)

@@ -3,12 +3,13 @@
 use draw::area_of;
 use geom::IRect;
 use gfx::Canvas;
+use sheet::u16_at;
 ghost use mathlib.Core.Path.{_≡_};
 ghost use Prim.Native.Nat.{_-_, _<_};
 ghost use lib.ListN.{length};
 ghost use Rattle.geom.specs.Refusals.{unless, andThen};
-ghost use Rattle.panel.specs.Registers.{u16In, flagsOf, regsOf, freshPanel, ready, placeIn, placeOk, flagsOk, panelOk};
-ghost use Rattle.panel.specs.Registers.{panelNumber, commandOk, takeNumber, pixelIn, WritesCommand, WritesFlags, Takes};
+ghost use Rattle.panel.specs.Registers.{flagsOf, regsOf, freshPanel, placeIn, transferOk, panelOk, panelNumber, commandOk};
+ghost use Rattle.panel.specs.Registers.{takeNumber, pixelIn, WritesCommand, WritesFlags, Takes};
 ghost use Rattle.panel.specs.Registers as Registers;
 
 // Eight bytes: 0 command, 1 flags, 2-3 column, 4-5 row, 6-7 pixels left in this row, the lower byte first; and the box last
@@ -32,20 +33,6 @@ pub struct Taken {
     pub number: u32,
     pub value: u32,
     pub panel: Panel,
-}
-
-fn wide(x: u8) -> usize
-    ensures { λ r. ⌜ (r ≡ x) × (r < 256) ⌝ }
-{
-    x as usize
-}
-
-// Two bytes of the registers.
-fn u16_in(regs: [u8; 8], at: usize) -> usize
-    requires { ⌜ at < 7 ⌝ }
-    ensures { λ r. ⌜ (r ≡ u16In regs at) × (r < 65536) ⌝ }
-{
-    wide(regs[at]) + 256 * wide(regs[at + 1])
 }
 
 // The bytes of flags, column, row and pixels left; the command reads 0.
@@ -93,8 +80,8 @@ fn finished(b: IRect) -> Panel
 }
 
 // The first pixel of row y of a box.
-fn at_row(f: u8, y: usize, b: IRect) -> Panel
-    ensures { λ r. ⌜ r ≡ Registers.atRow f y b ⌝ }
+fn row_start(f: u8, y: usize, b: IRect) -> Panel
+    ensures { λ r. ⌜ r ≡ Registers.rowStart f y b ⌝ }
 {
     let a = area_of(b);
     let l = less(a.x1, a.x0);
@@ -112,7 +99,7 @@ fn loaded(b: IRect) -> Panel
         return finished(b);
     }
     let a = area_of(b);
-    at_row(1, a.y0, b)
+    row_start(1, a.y0, b)
 }
 
 // Whether a box is loaded by a command.
@@ -170,37 +157,37 @@ impl Panel {
         ensures { λ r. ⌜ (r ≡ Registers.column self) × (r < 65536) ⌝ }
     {
         let regs = self.regs;
-        u16_in(regs, 2)
+        u16_at(&regs, 2)
     }
 
     fn row(self) -> usize
         ensures { λ r. ⌜ (r ≡ Registers.row self) × (r < 65536) ⌝ }
     {
         let regs = self.regs;
-        u16_in(regs, 4)
+        u16_at(&regs, 4)
     }
 
-    fn left(self) -> usize
-        ensures { λ r. ⌜ (r ≡ Registers.left self) × (r < 65536) ⌝ }
+    fn pixels_left(self) -> usize
+        ensures { λ r. ⌜ (r ≡ Registers.pixelsLeft self) × (r < 65536) ⌝ }
     {
         let regs = self.regs;
-        u16_in(regs, 6)
+        u16_at(&regs, 6)
     }
 
     // Whether a pixel is ready.
     fn ready(self) -> bool
-        ensures { λ r. ⌜ r ≡ ready self ⌝ }
+        ensures { λ r. ⌜ r ≡ Registers.ready self ⌝ }
     {
         self.flags() % 2 == 1
     }
 
-    // Whether the held box and the place in it are all right.
-    fn place_ok(self, canvas: Canvas) -> bool
-        ensures { λ r. ⌜ r ≡ placeOk canvas self ⌝ }
+    // Whether the held box is not empty and inside the canvas, and has the place.
+    fn transfer_ok(self, canvas: Canvas) -> bool
+        ensures { λ r. ⌜ r ≡ transferOk canvas self ⌝ }
     {
         let held = self.held;
         let full = !held.is_empty();
-        let place = place_in(held, self.column(), self.row(), self.left());
+        let place = place_in(held, self.column(), self.row(), self.pixels_left());
         full & canvas.has(held) & place
     }
 
@@ -211,7 +198,7 @@ impl Panel {
         let regs = self.regs;
         let command = regs[0] == 0;
         let flags = regs[1] / 2 % 64 == 0;
-        let place = !self.ready() | self.place_ok(canvas);
+        let place = !self.ready() | self.transfer_ok(canvas);
         command & flags & place
     }
 
@@ -226,8 +213,8 @@ impl Panel {
     }
 
     // Bit 7 cleared.
-    fn lowered(self) -> Panel
-        ensures { λ r. ⌜ r ≡ Registers.lowered self ⌝ }
+    fn acknowledged(self) -> Panel
+        ensures { λ r. ⌜ r ≡ Registers.acknowledged self ⌝ }
     {
         let mut regs = self.regs;
         let f = regs[1];
@@ -237,27 +224,27 @@ impl Panel {
     }
 
     // One column further.
-    fn along(self) -> Panel
-        ensures { λ r. ⌜ r ≡ Registers.along self ⌝ }
+    fn next_column(self) -> Panel
+        ensures { λ r. ⌜ r ≡ Registers.nextColumn self ⌝ }
     {
-        let l = less(self.left(), 1);
+        let l = less(self.pixels_left(), 1);
         let regs = regs_of(self.flags(), self.column() + 1, self.row(), l);
         let held = self.held;
         Panel { regs, held }
     }
 
     // One pixel further: along the row, to the next row, or finished.
-    fn moved(self) -> Panel
-        ensures { λ r. ⌜ r ≡ Registers.moved self ⌝ }
+    fn moved_on(self) -> Panel
+        ensures { λ r. ⌜ r ≡ Registers.movedOn self ⌝ }
     {
-        if 1 < self.left() {
-            return self.along();
+        if 1 < self.pixels_left() {
+            return self.next_column();
         }
         let held = self.held;
         let y = self.row() + 1;
         let a = area_of(held);
         if y < a.y1 {
-            return at_row(self.flags(), y, held);
+            return row_start(self.flags(), y, held);
         }
         finished(held)
     }
@@ -285,7 +272,7 @@ impl Panel {
         ensures { λ r. ⌜ WritesFlags canvas (now (px .entry)) self value r ⌝ }
     {
         let number = self.number(canvas, px.len());
-        step(step_number(number, value == 128, 21), self, self.lowered())
+        step(step_number(number, value == 128, 21), self, self.acknowledged())
     }
 
     // Takes the pixel at column and row, and moves on.
@@ -302,7 +289,7 @@ impl Panel {
             };
         }
         let value = self.pixel(canvas, px);
-        let panel = self.moved();
+        let panel = self.moved_on();
         Taken {
             number,
             value,

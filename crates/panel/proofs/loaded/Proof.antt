@@ -18,14 +18,14 @@ returns c = rw (c .finished .ensures, sym (c .before .before .is-empty .ensures)
 area-of-requires : tie.Need-area-of-requires
 area-of-requires c κs = search needs
 
-at-row-requires : tie.Need-at-row-requires
-at-row-requires c κs = search needs
+row-start-requires : tie.Need-row-start-requires
+row-start-requires c κs = search needs
 
 returns-2 : tie.Need-returns-2
 unfolding loaded
 returns-2 c =
     let d = c .before .before in
-    rw (c .at-row .ensures, c .before .area-of .ensures, sym (d .before .is-empty .ensures) ∙ d .if1 .left)
+    rw (c .row-start .ensures, c .before .area-of .ensures, sym (d .before .is-empty .ensures) ∙ d .if1 .left)
 
 pub loaded-spec : {M : Type 1} → statement M
 loaded-spec =
@@ -35,5 +35,5 @@ loaded-spec =
     finished-requires
     returns
     area-of-requires
-    at-row-requires
+    row-start-requires
     returns-2)

@@ -4,12 +4,15 @@ use borrow.Author.Needs.{needs}
 use Rattle.panel.proofs.Panel.column.Statement.{statement}
 use Rattle.panel.proofs.Panel.column.Tie as tie
 
-u16-in-requires : tie.Need-u16-in-requires
-u16-in-requires c κs = search needs
+slice-aggregate-u16-at : tie.Need-slice-aggregate-u16-at
+slice-aggregate-u16-at c = search needs
+
+u16-at-requires : tie.Need-u16-at-requires
+u16-at-requires c κs = search needs
 
 returns : tie.Need-returns
 unfolding column
-returns c = c .u16-in .ensures
+returns c = c .u16-at .ensures
 
 pub column-spec : {M : Type 1} → statement M
-column-spec = tie.close (tie.spec u16-in-requires returns)
+column-spec = tie.close (tie.spec slice-aggregate-u16-at u16-at-requires returns)

@@ -2,6 +2,7 @@
 use mathlib.Core.Path.{sym, _∙_}
 use borrow.Author.Tests.{not-true, not-false}
 use Rattle.panel.specs.Registers.{panelNumber}
+use Rattle.panel.proofs.Places.{twelve-first}
 use borrow.Author.Needs.{needs}
 use Rattle.panel.proofs.Panel.number.Statement.{statement}
 use Rattle.panel.proofs.Panel.number.Tie as tie
@@ -10,8 +11,7 @@ ok-requires : tie.Need-ok-requires
 ok-requires c κs = search needs
 
 returns : tie.Need-returns
-unfolding panelNumber
-returns c = rw (sym (c .before .ok .ensures) ∙ not-true _ (c .if1 .taken))
+returns c = sym (twelve-first _ _ _ (sym (c .before .ok .ensures) ∙ not-true _ (c .if1 .taken)))
 
 px-number-requires : tie.Need-px-number-requires
 px-number-requires c κs = search needs

@@ -13,14 +13,14 @@ array-read-flags c = search needs
 ready-requires : tie.Need-ready-requires
 ready-requires c κs = search needs
 
-place-ok-requires : tie.Need-place-ok-requires
-place-ok-requires c κs = search needs
+transfer-ok-requires : tie.Need-transfer-ok-requires
+transfer-ok-requires c κs = search needs
 
 returns : tie.Need-returns
 unfolding panelOk flagsOk
-returns c = rw (c .place-ok .ensures, c .before .ready .ensures)
+returns c = rw (c .transfer-ok .ensures, c .before .ready .ensures)
 
 pub ok-spec : {M : Type 1} → statement M
 ok-spec =
     tie.close
-    (tie.spec array-read-command array-read-flags ready-requires place-ok-requires returns)
+    (tie.spec array-read-command array-read-flags ready-requires transfer-ok-requires returns)

@@ -4,12 +4,15 @@ use borrow.Author.Needs.{needs}
 use Rattle.panel.proofs.Panel.row.Statement.{statement}
 use Rattle.panel.proofs.Panel.row.Tie as tie
 
-u16-in-requires : tie.Need-u16-in-requires
-u16-in-requires c κs = search needs
+slice-aggregate-u16-at : tie.Need-slice-aggregate-u16-at
+slice-aggregate-u16-at c = search needs
+
+u16-at-requires : tie.Need-u16-at-requires
+u16-at-requires c κs = search needs
 
 returns : tie.Need-returns
 unfolding row
-returns c = c .u16-in .ensures
+returns c = c .u16-at .ensures
 
 pub row-spec : {M : Type 1} → statement M
-row-spec = tie.close (tie.spec u16-in-requires returns)
+row-spec = tie.close (tie.spec slice-aggregate-u16-at u16-at-requires returns)

@@ -30,13 +30,13 @@ returns c = rw (← whole (c .before), ne-eqb _ 0 (c .if1 .taken))
 pixel-requires : tie.Need-pixel-requires
 pixel-requires c κs = sym (whole (c .before)) ∙ c .if1 .left
 
-moved-requires : tie.Need-moved-requires
-moved-requires c κs = search needs
+moved-on-requires : tie.Need-moved-on-requires
+moved-on-requires c κs = search needs
 
 returns-2 : tie.Need-returns-2
 returns-2 c =
     let d = c .before .before in
-    rw (c .moved .ensures, c .before .pixel .ensures, ← whole (d .before), eq-eqb _ 0 (d .if1 .left))
+    rw (c .moved-on .ensures, c .before .pixel .ensures, ← whole (d .before), eq-eqb _ 0 (d .if1 .left))
 
 pub take-spec : {M : Type 1} → statement M
 take-spec =
@@ -47,5 +47,5 @@ take-spec =
     step-number-requires
     returns
     pixel-requires
-    moved-requires
+    moved-on-requires
     returns-2)

@@ -10,8 +10,8 @@ number-requires c κs = search needs
 step-number-requires : tie.Need-step-number-requires
 step-number-requires c κs = search needs
 
-lowered-requires : tie.Need-lowered-requires
-lowered-requires c κs = search needs
+acknowledged-requires : tie.Need-acknowledged-requires
+acknowledged-requires c κs = search needs
 
 step-requires : tie.Need-step-requires
 step-requires c κs = search needs
@@ -20,9 +20,9 @@ returns : tie.Need-returns
 unfolding flagsNumber
 returns c =
     let n = c .before .before in
-    rw (c .step .ensures, c .before .lowered .ensures, n .step-number .ensures, n .before .number .ensures)
+    rw (c .step .ensures, c .before .acknowledged .ensures, n .step-number .ensures, n .before .number .ensures)
 
 pub write-flags-spec : {M : Type 1} → statement M
 write-flags-spec =
     tie.close
-    (tie.spec number-requires step-number-requires lowered-requires step-requires returns)
+    (tie.spec number-requires step-number-requires acknowledged-requires step-requires returns)

@@ -1,11 +1,11 @@
--- `panel::Panel::along` meets its contract. Assumes nothing.
-use Rattle.panel.specs.Registers.{along}
+-- `panel::Panel::next_column` meets its contract. Assumes nothing.
+use Rattle.panel.specs.Registers.{nextColumn}
 use borrow.Author.Needs.{needs}
-use Rattle.panel.proofs.Panel.along.Statement.{statement}
-use Rattle.panel.proofs.Panel.along.Tie as tie
+use Rattle.panel.proofs.Panel.next_column.Statement.{statement}
+use Rattle.panel.proofs.Panel.next_column.Tie as tie
 
-left-requires : tie.Need-left-requires
-left-requires c κs = search needs
+pixels-left-requires : tie.Need-pixels-left-requires
+pixels-left-requires c κs = search needs
 
 less-requires : tie.Need-less-requires
 less-requires c κs = search needs
@@ -26,19 +26,19 @@ regs-of-requires : tie.Need-regs-of-requires
 regs-of-requires c κs = search needs
 
 returns : tie.Need-returns
-unfolding along
+unfolding nextColumn
 returns c =
     let y = c .before .before in
     let x = y .before in
     let l = x .before .before in
     rw (c .before .regs-of .ensures, y .row .ensures .0, x .column .ensures .0, x .before .flags .ensures, l .less .ensures)
-    (rw (l .before .left .ensures .0))
+    (rw (l .before .pixels-left .ensures .0))
 
-pub along-spec : {M : Type 1} → statement M
-along-spec =
+pub next-column-spec : {M : Type 1} → statement M
+next-column-spec =
     tie.close
     (tie.spec
-    left-requires
+    pixels-left-requires
     less-requires
     flags-requires
     column-requires
