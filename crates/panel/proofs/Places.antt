@@ -128,7 +128,8 @@ inner-of c b v e i =
     h : Side (c .h)
     h = side-of (c .h) (valid-of c v .side-h)
 
-    sizes : (up (b .x0) < up (b .x1)) × (up (b .x1) ≤ up (c .w)) × (up (b .y0) < up (b .y1)) × (up (b .y1) ≤ up (c .h)) → Inner c b
+    sizes : (up (b .x0) < up (b .x1)) × (up (b .x1) ≤ up (c .w)) × (up (b .y0) < up (b .y1)) × (up (b .y1) ≤ up (c .h))
+        → Inner c b
     sizes q =
         record { some = e; within = i; across = q .0; down = q .2; right = q .1; bottom = q .3; wide = w .high; high = h .high }
 
@@ -218,13 +219,16 @@ pub moves : {c : Canvas} (p : Panel) → Underway c p → (P : Panel → Type 0)
     → (pixelsLeft p ≡ 1 → up (p .held .y1) ≤ row p + 1 → P (finished (p .held))) → P (movedOn p)
 unfolding movedOn
 moves p s P a d f =
-    split (ltb 1 (pixelsLeft p)) (λ t. P (cond t (nextColumn p) (cond last (rowStart (flagsOf p) (row p + 1) (p .held)) (finished (p .held)))))
+    split (ltb 1 (pixelsLeft p)) (λ t. P (cond t (nextColumn p) (cond below next (finished (p .held)))))
     (λ e. a (ltb-true 1 (pixelsLeft p) e))
-    (λ e. split last (λ t. P (cond t (rowStart (flagsOf p) (row p + 1) (p .held)) (finished (p .held))))
-    (λ r. d (one e) (ltb-true (row p + 1) (up (p .held .y1)) r)) (λ r. f (one e) (ltb-false (row p + 1) (up (p .held .y1)) r)))
+    (λ e. split below (λ t. P (cond t next (finished (p .held)))) (λ r. d (one e) (ltb-true (row p + 1) (up (p .held .y1)) r))
+    (λ r. f (one e) (ltb-false (row p + 1) (up (p .held .y1)) r)))
   where
-    last : Bool
-    last = ltb (row p + 1) (up (p .held .y1))
+    below : Bool
+    below = ltb (row p + 1) (up (p .held .y1))
+
+    next : Panel
+    next = rowStart (flagsOf p) (row p + 1) (p .held)
 
     one : ltb 1 (pixelsLeft p) ≡ false → pixelsLeft p ≡ 1
     one e = omega (arith, s .place .rest, s .place .upto, ltb-false 1 (pixelsLeft p) e)

@@ -60,10 +60,10 @@ module _ (c : Canvas) (px : List ℕ) where
         size = z;
         done = λ q. absurd (false≢true (sym q ∙ ready-by (panelOf f x y l b) ∙ k));
         here = λ q. record {
-            lent = o;
-            box = e;
-            from = rw (column-of f x y l b (omega arith), row-of f x y l b (omega arith), left-of f x y l b (omega arith));
-          };
+          lent = o;
+          box = e;
+          from = rw (column-of f x y l b (omega arith), row-of f x y l b (omega arith), left-of f x y l b (omega arith));
+        };
       }
 
   at-row : (f y : ℕ) (b : IRect) (t : Transfer) → eqb (f % 2) 1 ≡ true → Open c n → Inner c b
@@ -104,10 +104,10 @@ module _ (c : Canvas) (px : List ℕ) where
         size = g .size;
         done = λ q. g .done (sym (acknowledged-ready p) ∙ q);
         here = λ q. let h = g .here (sym (acknowledged-ready p) ∙ q) in record {
-            lent = h .lent;
-            box = h .box ∙ sym (acknowledged-held p);
-            from = rw (acknowledged-column p, acknowledged-row p, acknowledged-left p, acknowledged-held p) (h .from);
-          };
+          lent = h .lent;
+          box = h .box ∙ sym (acknowledged-held p);
+          from = rw (acknowledged-column p, acknowledged-row p, acknowledged-left p, acknowledged-held p) (h .from);
+        };
       }
 
   -- ---- a take
@@ -142,8 +142,9 @@ module _ (c : Canvas) (px : List ℕ) where
     take-along : 1 < pixelsLeft p → Progress c px (nextColumn p) next
     unfolding nextColumn pixelIn
     take-along h =
-        at-place (flagsOf p) (column p + 1) (row p) (pixelsLeft p - 1) b next lit (came .lent) (s .inner) (next-place (s .place) h)
-        (came .box) (g .size)
+        let place = next-place (s .place) h in
+        at-place (flagsOf p) (column p + 1) (row p) (pixelsLeft p - 1) b next lit (came .lent) (s .inner) place (came .box)
+        (g .size)
         (one _ (remaining-more px (c .pitch) (column p) (row p) (pixelsLeft p) b in-px (pixelsLeft p - 1) (omega arith)))
 
     take-row : pixelsLeft p ≡ 1 → row p + 1 < up (b .y1) → Progress c px (rowStart (flagsOf p) (row p + 1) b) next
@@ -171,7 +172,8 @@ module _ (c : Canvas) (px : List ℕ) where
 
   -- ---- a list
 
-  one-step : (p : Panel) (t : Transfer) (s : Step) → Progress c px p t → Does c px p s → Progress c px (panelAfter s) (afterStep t s)
+  one-step : (p : Panel) (t : Transfer) (s : Step) → Progress c px p t → Does c px p s
+      → Progress c px (panelAfter s) (afterStep t s)
   unfolding Does panelAfter afterStep
   one-step p t (command v b r) g d = rw d (go (eqb (commandNumber c n p v b) 0) refl)
     where
@@ -222,7 +224,7 @@ module _ (c : Canvas) (px : List ℕ) where
         let s = taking c n p e .0 .1 in
         let k = pixelsLeft p - 1 in
         let more = remaining-more px (c .pitch) (column p) (row p) (pixelsLeft p) (p .held) (pixel-inside c n p e) k
-            (omega (arith, s .place .rest, s .place .upto)) in
+        (omega (arith, s .place .rest, s .place .upto)) in
         rw (h .from, more) (omega arith)
 
     total : length (t .pixels) + length (g .rest) ≡ sizeOf (t .box)
@@ -287,6 +289,6 @@ pub panels : Panels
 panels =
     record {
       lists = λ c px ss f. let both = all-steps c px freshPanel (begun noBox) ss (fresh-ok c) (from-fresh c px) f in
-        transfers c px (endOf freshPanel ss) (transferOf ss) (both .0) (both .1);
+          transfers c px (endOf freshPanel ss) (transferOf ss) (both .0) (both .1);
       kept = kept;
     }

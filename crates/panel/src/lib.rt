@@ -272,7 +272,11 @@ impl Panel {
         ensures { λ r. ⌜ WritesFlags canvas (now (px .entry)) self value r ⌝ }
     {
         let number = self.number(canvas, px.len());
-        step(step_number(number, value == 128, 21), self, self.acknowledged())
+        step(
+            step_number(number, value == 128, 21),
+            self,
+            self.acknowledged(),
+        )
     }
 
     // Takes the pixel at column and row, and moves on.

@@ -27,8 +27,8 @@ unfolding transferOk
 returns c =
     let l = c .before .before in
     let x = l .before .before in
-    rw (c .has .ensures, c .before .place-in .ensures, l .pixels-left .ensures .0, l .before .row .ensures .0, x .column .ensures .0)
-    (rw (x .before .is-empty .ensures))
+    rw (c .has .ensures, c .before .place-in .ensures, l .pixels-left .ensures .0, l .before .row .ensures .0)
+    (rw (x .column .ensures .0, x .before .is-empty .ensures))
 
 pub transfer-ok-spec : {M : Type 1} → statement M
 transfer-ok-spec =
