@@ -61,7 +61,7 @@ pub registers :
     × (loaded (boxOf (pos 517) (pos 0) (pos 817) (pos 1)) .regs ≡ 0 ∷ 1 ∷ 5 ∷ 2 ∷ 0 ∷ 0 ∷ 44 ∷ 1 ∷ [])
     -- the pixels, row by row, by the pitch
     × (pixelsOf px 4 right ≡ 11 ∷ 12 ∷ 21 ∷ 22 ∷ [])
-    × (pixelIn (canvas 4) px two ≡ 21)
+    × (pixelIn (canvas 4) px one ≡ 12)
 unfolding loaded rowStart finished movedOn nextColumn acknowledged column row pixelsLeft pixelIn pixelsOf rowsOf empty freshOf
 registers = (refl, refl, refl, refl, refl, refl, refl, refl, refl, refl)
 
