@@ -13,8 +13,8 @@ use Rattle.gfx.specs.Calls.{pxNumber}
 use Rattle.gfx.specs.declared.Canvas.{Canvas}
 use Rattle.panel.specs.declared.Panel.{Panel}
 use Rattle.panel.specs.Registers.{column, row, pixelsLeft, ready, freshPanel, placeIn, transferOk, flagsOk, panelOk}
-use Rattle.panel.specs.Registers.{panelNumber, commandOk, commandNumber, flagsNumber, takeNumber, finished, rowStart, loaded}
-use Rattle.panel.specs.Registers.{acknowledged, nextColumn, movedOn, pixelIn}
+use Rattle.panel.specs.Registers.{panelNumber, commandOk, commandNumber, flagsNumber, takeNumber, finished, rowStart}
+use Rattle.panel.specs.Registers.{loaded, acknowledged, nextColumn, movedOn, pixelIn}
 use Rattle.panel.specs.Lists.{rowsOf, pixelsOf}
 
 -- the canvas, with a pitch, and its px
