@@ -1,6 +1,6 @@
 /* Measures and paints a small ticket, patches it, draws it call by call, blends a pixel, counts steps, does the same within a wider frame,
- * patches shapes under clips, lets a trace grow, takes every small clip order, and checks every answer. The counts are worked out by hand, or by
- * the pixels that differ.
+ * patches shapes under clips, lets a trace grow, takes every small clip order, takes boxes through a panel's registers, and checks every answer.
+ * The counts are worked out by hand, or by the pixels that differ.
  *
  *   cc -std=c11 -Wall -Wextra -Werror -I bindings/c bindings/c/example.c -L target/staticlib -lmaldjupp -o example */
 #include "maldjupp.h"
@@ -793,6 +793,185 @@ static void hidden(void) {
     check("the pixels are those before it came", memcmp(px, fresh, sizeof px) == 0);
 }
 
+/* The panel of the steps below, which are given the canvas and the frame. */
+static struct maldjupp_panel panel;
+
+static struct maldjupp_box box(int32_t x0, int32_t y0, int32_t x1, int32_t y1) {
+    struct maldjupp_box b = {x0, y0, x1, y1};
+    return b;
+}
+
+/* A panel with these flags, column, row, pixels left and box; its command is 0. */
+static struct maldjupp_panel panel_at(uint32_t flags, uint32_t x, uint32_t y, uint32_t left, struct maldjupp_box held) {
+    struct maldjupp_panel p = {.held = held};
+    const uint32_t words[] = {flags << 8, x, y, left};
+    for (size_t i = 0; i < 8; i++) p.regs[i] = (uint8_t)(words[i / 2] >> 8 * (i % 2));
+    return p;
+}
+
+static int is_panel(struct maldjupp_panel p) { return memcmp(&p, &panel, sizeof p) == 0; }
+
+/* Goes on with the panel that a write returned, and says whether it was accepted. */
+static int wrote(struct maldjupp_stepped s) {
+    panel = s.panel;
+    return s.number == MALDJUPP_ACCEPTED;
+}
+
+static struct maldjupp_stepped command(uint32_t value, struct maldjupp_box area) {
+    return maldjupp_panel_command(panel, canvas, frame, FRAME, (uint8_t)value, area);
+}
+
+static int load(struct maldjupp_box area) { return wrote(command(MALDJUPP_LOAD, area)); }
+
+static struct maldjupp_stepped flags(uint32_t value) { return maldjupp_panel_flags(panel, canvas, frame, FRAME, (uint8_t)value); }
+
+static int acknowledge(void) { return wrote(flags(MALDJUPP_INTERRUPT)); }
+
+/* Takes so many pixels of the held box, from its first on. Whether each is that of its column and row, and the registers at it are those of the
+ * place, with these flags. */
+static int takes(const uint32_t *px, uint32_t count, uint32_t bits) {
+    struct maldjupp_box b = panel.held;
+    uint32_t sound = 0, x0 = (uint32_t)b.x0, y0 = (uint32_t)b.y0, w = (uint32_t)b.x1 - x0;
+    for (uint32_t k = 0; k < count; k++) {
+        uint32_t x = x0 + k % w, y = y0 + k / w;
+        int placed = is_panel(panel_at(bits, x, y, w - k % w, b));
+        struct maldjupp_taken t = maldjupp_panel_take(panel, canvas, px, canvas.pitch * (size_t)canvas.h);
+        sound += placed && t.number == MALDJUPP_ACCEPTED && t.value == px[y * canvas.pitch + x];
+        panel = t.panel;
+    }
+    return sound == count;
+}
+
+static int is_finished(struct maldjupp_box held) { return is_panel(panel_at(MALDJUPP_INTERRUPT, 0, 0, 0, held)); }
+
+/* Boxes of the frame, taken pixel by pixel. */
+static void panels(void) {
+    const struct maldjupp_box none = {0, 0, 0, 0}, area = {5, 2, 12, 6}, far = {9000, -7, 9000, INT32_MAX}, all = {0, 0, W, H};
+    check("a panel has 24 bytes, its box at 8", sizeof panel == 24 && offsetof(struct maldjupp_panel, held) == 8);
+    check("a write's answer has 28, its panel at 4",
+          sizeof(struct maldjupp_stepped) == 28 && offsetof(struct maldjupp_stepped, panel) == 4);
+    check("a take's has 32, its pixel at 4, its panel at 8",
+          sizeof(struct maldjupp_taken) == 32 && offsetof(struct maldjupp_taken, value) == 4 && offsetof(struct maldjupp_taken, panel) == 8);
+    struct maldjupp_done made = maldjupp_new(W, H, PITCH, frame, FRAME);
+    canvas = maldjupp_whole(W, H, PITCH), lay(frame, FRAME), panel = maldjupp_panel_fresh();
+    check("a whole state is that of a new canvas", made.number == MALDJUPP_ACCEPTED && memcmp(&made.canvas, &canvas, sizeof canvas) == 0);
+    check("a fresh panel: zeros", is_panel(panel_at(0, 0, 0, 0, none)));
+    check("a box is loaded: its corner and width, bit 0", load(area) && is_panel(panel_at(MALDJUPP_PIXEL_READY, 5, 2, 7, area)));
+    check("taken, it is the box of the frame, row by row", takes(frame, 28, MALDJUPP_PIXEL_READY));
+    check("the last take: zeros, the interrupt", is_finished(area));
+    check("128 clears bit 7", acknowledge() && is_panel(panel_at(0, 0, 0, 0, area)));
+    check("once more: nothing is altered", acknowledge() && is_panel(panel_at(0, 0, 0, 0, area)));
+    check("an empty box far outside: held as given, finished", load(far) && is_finished(far));
+    check("a load clears bit 7", load(area) && is_panel(panel_at(MALDJUPP_PIXEL_READY, 5, 2, 7, area)));
+    check("128 while busy: bit 0 stays",
+          takes(frame, 9, MALDJUPP_PIXEL_READY) && acknowledge() && is_panel(panel_at(MALDJUPP_PIXEL_READY, 7, 3, 5, area)));
+    check("a load while busy starts anew", load(box(1, 1, 3, 3)) && takes(frame, 4, MALDJUPP_PIXEL_READY) && is_finished(box(1, 1, 3, 3)));
+    check("an empty box while busy: finished", load(area) && takes(frame, 1, MALDJUPP_PIXEL_READY) && load(none) && is_finished(none));
+    check("the whole canvas, pixel by pixel", load(all) && takes(frame, W * H, MALDJUPP_PIXEL_READY) && is_finished(all));
+    panel = panel_at(0x81, 5, 2, 7, area);
+    check("flags 0x81 stay through takes; the last leaves 128", takes(frame, 28, 0x81) && is_finished(area));
+    panel = panel_at(0x81, 5, 2, 7, area);
+    check("128 written to flags 0x81: 1 is left", acknowledge() && is_panel(panel_at(1, 5, 2, 7, area)));
+    check("px is only read", kept(frame, PITCH, 0));
+    canvas = maldjupp_whole(2048, H, WIDEST), lay(widest, WIDEST * H);
+    check("columns over 255, to the last of 2,048",
+          wrote(maldjupp_panel_command(panel, canvas, widest, WIDEST * H, 1, box(250, 13, 2048, H))) && takes(widest, 3 * 1798, 1) &&
+              is_finished(box(250, 13, 2048, H)));
+}
+
+/* Whether a write or a take is refused by a number: the panel comes back as given, and a take hands over 0. */
+static int unwritten(struct maldjupp_stepped s, uint32_t number) { return s.number == number && is_panel(s.panel); }
+
+static int untaken(size_t pixels, uint32_t number) {
+    struct maldjupp_taken t = maldjupp_panel_take(panel, canvas, frame, pixels);
+    return t.number == number && t.value == 0 && is_panel(t.panel);
+}
+
+/* Whether every step on so many pixels is refused by a number, also those that are refused for themselves by 20, 21 or, with no pixel ready, 22. */
+static int every_step_refuses(size_t pixels, uint32_t number) {
+    const struct maldjupp_box fits = {0, 0, 1, 1}, none = {9, 9, 9, 9}, past = {0, 0, W + 1, 1};
+    return unwritten(maldjupp_panel_command(panel, canvas, frame, pixels, 1, fits), number) &&
+           unwritten(maldjupp_panel_command(panel, canvas, frame, pixels, 1, none), number) &&
+           unwritten(maldjupp_panel_command(panel, canvas, frame, pixels, 1, past), number) &&
+           unwritten(maldjupp_panel_command(panel, canvas, frame, pixels, 0, fits), number) &&
+           unwritten(maldjupp_panel_flags(panel, canvas, frame, pixels, 128), number) &&
+           unwritten(maldjupp_panel_flags(panel, canvas, frame, pixels, 127), number) && untaken(pixels, number);
+}
+
+/* Whether these registers are refused by 12 at every step. */
+static int out_of_order(struct maldjupp_panel p) {
+    panel = p;
+    return every_step_refuses(FRAME, MALDJUPP_STATE);
+}
+
+/* What each step is refused for itself, with a pixel ready and with none. */
+static void panel_refusals(void) {
+    const struct maldjupp_box area = {5, 2, 12, 6}, none = {9, 9, 9, 9};
+    const struct maldjupp_box past[] = {{-1, 0, 9, 9}, {0, -1, 9, 9}, {0, 0, W + 1, 9}, {0, 0, 9, H + 1}, {W, 0, W + 1, 1}};
+    const struct maldjupp_panel given[] = {panel_at(0, 0, 0, 0, none), panel_at(1, 6, 3, 6, area), panel_at(128, 0, 0, 0, area)};
+    size_t commands = 0, boxes = 0, writes = 0, untouched = 0;
+    canvas = maldjupp_whole(W, H, PITCH), lay(frame, FRAME);
+    for (size_t i = 0; i < 3; i++) {
+        panel = given[i];
+        for (uint32_t v = 0; v < 256; v++) {
+            commands += unwritten(command(v, area), MALDJUPP_COMMAND) && unwritten(command(v, none), MALDJUPP_COMMAND);
+            writes += unwritten(flags(v), MALDJUPP_FLAG_WRITE);
+        }
+        for (size_t j = 0; j < 5; j++) boxes += unwritten(command(MALDJUPP_LOAD, past[j]), MALDJUPP_COMMAND);
+        untouched += untaken(FRAME, MALDJUPP_NOT_READY);
+    }
+    check("every command but 1: refused 20, whatever the box", commands == 3 * 255);
+    check("a box past a side of the canvas: refused 20", boxes == 3 * 5);
+    check("every flag write but 128: refused 21", writes == 3 * 255);
+    check("a take while no pixel is ready: refused 22, and 0", untouched == 2);
+}
+
+/* Registers out of order, each sort, and registers that may be anything. */
+static void panel_registers(void) {
+    const struct maldjupp_box area = {5, 2, 12, 6}, odd = {9, 7, -3, 99};
+    struct maldjupp_panel sound = panel_at(1, 6, 3, 6, area);
+    size_t commands = 0, others = 0;
+    for (uint32_t v = 1; v < 256; v++) {
+        sound.regs[0] = (uint8_t)v, commands += out_of_order(sound);
+        others += out_of_order(panel_at(v, 6, 3, 6, area));
+    }
+    check("a command byte that is not 0: refused 12", commands == 255);
+    check("a flag other than bits 0 and 7: refused 12", others == 252);
+    check("a pixel ready, the held box empty: refused 12", out_of_order(panel_at(1, 0, 0, 0, box(0, 0, 0, 0))) &&
+                                                                out_of_order(panel_at(1, 6, 3, 6, box(5, 6, 12, 2))));
+    check("the held box past a side of the canvas: refused 12",
+          out_of_order(panel_at(1, 6, 3, 6, box(-1, 2, 12, 6))) && out_of_order(panel_at(1, 6, 3, 6, box(5, -1, 12, 6))) &&
+              out_of_order(panel_at(1, 6, 3, W + 1 - 6, box(5, 2, W + 1, 6))) && out_of_order(panel_at(1, 6, 3, 6, box(5, 2, 12, H + 1))));
+    check("the place outside the held box: refused 12",
+          out_of_order(panel_at(1, 4, 3, 8, area)) && out_of_order(panel_at(1, 12, 3, 0, area)) && out_of_order(panel_at(1, 6, 1, 6, area)) &&
+              out_of_order(panel_at(1, 6, 6, 6, area)));
+    check("pixels left that are not the rest of the row: refused 12",
+          out_of_order(panel_at(1, 6, 3, 5, area)) && out_of_order(panel_at(1, 6, 3, 7, area)) && out_of_order(panel_at(0x81, 6, 3, 0, area)));
+    panel = panel_at(128, 40000, 50000, 60000, odd);
+    check("none ready: the other bytes and the box may be anything", acknowledge() && is_panel(panel_at(0, 40000, 50000, 60000, odd)));
+    check("and a box is loaded", load(area) && is_panel(panel_at(1, 5, 2, 7, area)));
+}
+
+/* The tests before a step's own, in their order. */
+static void panel_order(void) {
+    const struct maldjupp_canvas sound = maldjupp_whole(W, H, PITCH);
+    const struct maldjupp_panel given[] = {maldjupp_panel_fresh(), panel_at(1, 6, 3, 6, box(5, 2, 12, 6))};
+    size_t states = 0, pitched = 0, lent = 0, registers = 0;
+    for (size_t i = 0; i < 2; i++) {
+        panel = given[i], canvas = sound, canvas.pitch = W - 1, canvas.depth = 17;
+        states += every_step_refuses(3, MALDJUPP_STATE);
+        canvas.depth = 0, pitched += every_step_refuses(3, MALDJUPP_PITCH) && every_step_refuses((W - 1) * H, MALDJUPP_PITCH);
+        canvas.pitch = 4097, pitched += every_step_refuses(FRAME, MALDJUPP_PITCH);
+        canvas = sound, lent += every_step_refuses(FRAME - 1, MALDJUPP_PIXELS) && every_step_refuses(0, MALDJUPP_PIXELS);
+        panel.regs[0] = 1, canvas.pitch = W - 1, registers += every_step_refuses(3, MALDJUPP_STATE);
+    }
+    check("a state that a canvas cannot be in: 12 before 15 and 8", states == 2);
+    check("a pitch below the width or of 4,097: 15 before 8", pitched == 4);
+    check("a word too few, or none: 8 before 20, 21 and 22", lent == 2);
+    check("12 for the registers before 15 and 8", registers == 2);
+    check("refused, px is as it was", kept(frame, PITCH, 0));
+}
+
 int main(void) {
     static uint8_t sheet[MOST];
     struct maldjupp_room room = maldjupp_measure(sheet, ticket(copper, 9, sheet));
@@ -816,6 +995,10 @@ int main(void) {
     hidden();
     traces();
     orders();
+    panels();
+    panel_refusals();
+    panel_registers();
+    panel_order();
 
     printf("example: %s\n", failed ? "FAILED" : "every answer is as it should be");
     return failed != 0;

@@ -1,5 +1,5 @@
-/* Maldjupp: a sheet of shapes is painted and patched, or a canvas drawn on call by call, by the proved static library libmaldjupp.a, which
- * `rt staticlib maldjupp` writes.
+/* Maldjupp: a sheet of shapes is painted and patched, a canvas drawn on call by call, and a box of pixels handed over through a panel's registers,
+ * by the proved static library libmaldjupp.a, which `rt staticlib maldjupp` writes.
  *
  * Sheet, buffer, pixels, points and scratch are lent for the call. Only what is lent is touched, whatever the bytes and numbers are, and nothing
  * is kept. Lent pieces must not overlap. A pointer whose length is 0 must not be null: give the address of anything.
@@ -33,11 +33,14 @@ enum maldjupp_number {
     MALDJUPP_SCRATCH = 9,      /* the scratch lent is less than is needed */
     MALDJUPP_DIFFERENCE = 10,  /* the sheets differ in size, ground or item count, or in a push or pop of a clip */
     MALDJUPP_INK = 11,         /* an ink of maldjupp_blend is over 255 */
-    MALDJUPP_STATE = 12,       /* a state that a canvas cannot be in */
+    MALDJUPP_STATE = 12,       /* a state that a canvas cannot be in, or panel registers out of order */
     MALDJUPP_POINTS = 13,      /* a polygon or polyline of over 64 points, or in a canvas call an odd count of coordinates */
     MALDJUPP_MANY = 14,        /* the sheets differ in more than 32 shapes */
     MALDJUPP_PITCH = 15,       /* a pitch outside the width to 4,096, also one in a state, or one below the width that maldjupp_resize wants */
     MALDJUPP_BUFFER = 19,      /* the sheet does not fit the buffer */
+    MALDJUPP_COMMAND = 20,     /* a command other than 1, or a box neither empty nor inside the canvas */
+    MALDJUPP_FLAG_WRITE = 21,  /* a flag write other than 128 */
+    MALDJUPP_NOT_READY = 22,   /* a take while no pixel is ready */
     MALDJUPP_ORDER = 23        /* there is no clip order of this number: it is 1,093 or more */
 };
 
@@ -249,6 +252,13 @@ static inline struct maldjupp_brush maldjupp_radial(struct maldjupp_pt c, float 
  * zeros. */
 struct maldjupp_done maldjupp_new(int32_t w, int32_t h, size_t pitch, uint32_t *px, size_t pixels);
 
+/* The state of a canvas of a size and pitch with all of it as clip and nothing saved, as maldjupp_new returns it; no pixel is touched. So a canvas
+ * call, or a step of a panel, can be given pixels that a sheet was painted on. */
+static inline struct maldjupp_canvas maldjupp_whole(int32_t w, int32_t h, size_t pitch) {
+    struct maldjupp_canvas canvas = {w, h, pitch, {0, 0, w, h}, {{0, 0, 0, 0}}, 0};
+    return canvas;
+}
+
 /* Another size, as if new, with the state's pitch; the same size alters nothing. `px` is for the new size, sides below 1 raised: the pitch times
  * the new height. Refused by 15 where the pitch is outside the state's own width to 4,096, or below the width that is wanted. */
 struct maldjupp_done maldjupp_resize(struct maldjupp_canvas canvas, int32_t w, int32_t h, uint32_t *px, size_t pixels);
@@ -300,6 +310,92 @@ struct maldjupp_counted maldjupp_fill_poly(struct maldjupp_canvas canvas, uint32
  * is refused by 5. */
 struct maldjupp_counted maldjupp_shadow_rrect(struct maldjupp_canvas canvas, uint32_t *px, size_t pixels, struct maldjupp_rect rect, float r,
                                               float blur, struct maldjupp_color color, uint32_t skip_inside);
+
+/* ---- The panel's registers
+ *
+ * A panel takes the pixels of a box one by one, row by row, through eight bytes, little-endian:
+ *
+ *     0    command: written with a box, 1 loads it; reads 0 always
+ *     1    flags: bit 0, a pixel is ready; bit 7, finished, the interrupt; written, 128 clears bit 7
+ *     2-3  column of the next pixel
+ *     4-5  row of the next pixel
+ *     6-7  pixels left in this row, the next one included
+ *
+ * The box last loaded is held beside them till the next load. A step takes the panel by value and returns it beside its number. All steps of one
+ * transfer, from a load to the last take, are given the same canvas state and pixels; px is only read. The box of a patch whose answer is r:
+ *
+ *     struct maldjupp_canvas c = maldjupp_whole(W, H, W);
+ *     struct maldjupp_box area = {r.x0, r.y0, r.x1, r.y1};
+ *     struct maldjupp_stepped s = maldjupp_panel_command(maldjupp_panel_fresh(), c, px, W * H, MALDJUPP_LOAD, area);
+ *     if (s.number != MALDJUPP_ACCEPTED) ..
+ *     while (s.panel.regs[1] & MALDJUPP_PIXEL_READY) {
+ *         struct maldjupp_taken t = maldjupp_panel_take(s.panel, c, px, W * H);
+ *         if (t.number != MALDJUPP_ACCEPTED) ..
+ *         send(t.value), s.panel = t.panel;
+ *     }
+ *     s = maldjupp_panel_flags(s.panel, c, px, W * H, MALDJUPP_INTERRUPT);
+ *
+ * A refused take leaves bit 0 set, so that a loop must look at the number too.
+ *
+ * Every step tests in the order 12, 15, 8, then its own 20, 21 or 22. 12 is given for a state that a canvas cannot be in, and for registers out of
+ * order: a command that is not 0, a flag other than bits 0 and 7, or, with bit 0 set, a held box that is empty or leaves the canvas, a place
+ * outside that box, or pixels left that are not the rest of its row. With bit 0 clear, bytes 2 to 7 and the held box may be anything. Refused, the
+ * panel comes back as it was given, and a take hands over 0. No step of a panel whose registers are out of order is accepted, a load included:
+ * maldjupp_panel_fresh begins anew.
+ *
+ * Proved over every list of steps from a fresh panel, refused ones among them, each given the same canvas state and px, with no other call on the
+ * pixels: those that accepted takes handed over since the last accepted load are the first so many of its box, row by row. */
+
+struct maldjupp_panel {
+    uint8_t regs[8];
+    struct maldjupp_box held;
+};
+
+/* The command that loads a box. */
+enum maldjupp_command { MALDJUPP_LOAD = 1 };
+
+/* The flags. */
+enum maldjupp_flag {
+    MALDJUPP_PIXEL_READY = 1, /* bit 0: a pixel is ready */
+    MALDJUPP_INTERRUPT = 128  /* bit 7: finished; this value is also what is written to clear it */
+};
+
+/* What a write returns. */
+struct maldjupp_stepped {
+    uint32_t number; /* 0 where accepted, else one of the numbers above */
+    struct maldjupp_panel panel;
+};
+
+/* What a take returns. */
+struct maldjupp_taken {
+    uint32_t number; /* 0 where accepted, else one of the numbers above */
+    uint32_t value;  /* the pixel, all 32 bits; 0 where refused */
+    struct maldjupp_panel panel;
+};
+
+/* Column and row of the next pixel, and the pixels left in this row. */
+static inline uint32_t maldjupp_panel_column(struct maldjupp_panel panel) { return panel.regs[2] | (uint32_t)panel.regs[3] << 8; }
+
+static inline uint32_t maldjupp_panel_row(struct maldjupp_panel panel) { return panel.regs[4] | (uint32_t)panel.regs[5] << 8; }
+
+static inline uint32_t maldjupp_panel_left(struct maldjupp_panel panel) { return panel.regs[6] | (uint32_t)panel.regs[7] << 8; }
+
+/* A fresh panel: every register and the held box zero. */
+struct maldjupp_panel maldjupp_panel_fresh(void);
+
+/* Writes a value to the command, with a box. 1 loads it: the flags are cleared, the registers are those of its first pixel, and bit 0 is set. Of
+ * an empty box, which may lie anywhere, bytes 2 to 7 are zero, and bit 7 is set instead. The box is held as given. A load while bit 0 is
+ * set starts anew. Refused by 20 for another value, whatever the box, and for a box neither empty nor inside the canvas. */
+struct maldjupp_stepped maldjupp_panel_command(struct maldjupp_panel panel, struct maldjupp_canvas canvas, const uint32_t *px, size_t pixels,
+                                               uint8_t value, struct maldjupp_box area);
+
+/* Writes a value to the flags. 128 clears bit 7 and leaves bit 0; where bit 7 is clear, nothing is altered. Refused by 21 for another value. */
+struct maldjupp_stepped maldjupp_panel_flags(struct maldjupp_panel panel, struct maldjupp_canvas canvas, const uint32_t *px, size_t pixels,
+                                             uint8_t value);
+
+/* Takes the pixel at column and row, px[row * pitch + column], and moves on: to the next column, after a row's last to the first of the next, the
+ * flags as they were. The last take of a box clears bit 0, leaves bytes 2 to 7 zero and sets bit 7. Refused by 22 while bit 0 is clear. */
+struct maldjupp_taken maldjupp_panel_take(struct maldjupp_panel panel, struct maldjupp_canvas canvas, const uint32_t *px, size_t pixels);
 
 #ifdef __cplusplus
 }

@@ -1,8 +1,10 @@
 /* Paints the first sheet and patches the pixels through the others: settling OUT SHEET SHEET ..
  *
  * The same is done within a terminal's frame, whose rows are longer than the canvas. After every patch the pixels must be those of a fresh painting,
- * within the frame too, and every word around them as it was. Prints of each call how many steps of a shape altered a pixel, and how many
- * pixels the ground altered. Writes start.ppm, ticket.ppm (the last) and frame.ppm (the last, within the frame) into the folder OUT.
+ * within the frame too, and every word around them as it was. From the frame, the whole ticket is taken through a panel's registers after the
+ * painting, and then the box of each patch alone: what was taken must be the ticket after every patch. Prints of each call how many steps of a
+ * shape altered a pixel, and how many pixels the ground altered. Writes start.ppm, ticket.ppm (the last), frame.ppm (the last, within the frame)
+ * and panel.ppm (what was taken through the panel) into the folder OUT.
  *
  *   cc -std=c11 -Wall -Wextra -Werror -I bindings/c bindings/c/settling.c -L target/staticlib -lmaldjupp -o settling */
 #include "maldjupp.h"
@@ -25,6 +27,11 @@ static size_t words;
 enum { ASIDE = 60, ABOVE = 40 };
 static uint32_t *frame, *lent;
 static size_t pitch, rows;
+
+/* The panel, the picture of the pixels that were taken through it, and how many: of the whole ticket, and of the boxes. */
+static struct maldjupp_panel panel;
+static uint32_t sent[PIXELS];
+static unsigned long long whole, boxed;
 
 /* The steps of the painting, and of all patches. */
 static unsigned long long painted, patched;
@@ -103,6 +110,34 @@ static bool alike(struct maldjupp_reply a, struct maldjupp_reply b) {
     return a.number == b.number && a.item == b.item && a.x0 == b.x0 && a.y0 == b.y0 && a.x1 == b.x1 && a.y1 == b.y1 && a.steps == b.steps;
 }
 
+/* Takes a box of the ticket within the frame through the panel, each pixel to its column and row, and acknowledges the interrupt. How many pixels
+ * were taken; -1 where a step is refused, or the interrupt does not come. */
+static long long take(const uint8_t *sheet, struct maldjupp_box area) {
+    struct maldjupp_canvas c = maldjupp_whole((int32_t)width(sheet), (int32_t)height(sheet), pitch);
+    size_t lent_words = pitch * height(sheet);
+    struct maldjupp_stepped s = maldjupp_panel_command(panel, c, lent, lent_words, MALDJUPP_LOAD, area);
+    if (s.number != MALDJUPP_ACCEPTED) return -1;
+    long long count = 0;
+    while (s.panel.regs[1] & MALDJUPP_PIXEL_READY) {
+        struct maldjupp_taken t = maldjupp_panel_take(s.panel, c, lent, lent_words);
+        if (t.number != MALDJUPP_ACCEPTED) return -1;
+        sent[maldjupp_panel_row(s.panel) * width(sheet) + maldjupp_panel_column(s.panel)] = t.value;
+        s.panel = t.panel, count++;
+    }
+    if (!(s.panel.regs[1] & MALDJUPP_INTERRUPT)) return -1;
+    s = maldjupp_panel_flags(s.panel, c, lent, lent_words, MALDJUPP_INTERRUPT), panel = s.panel;
+    return s.number == MALDJUPP_ACCEPTED && panel.regs[1] == 0 ? count : -1;
+}
+
+/* Takes a box, adds its pixels to a count, and holds what was taken so far to the ticket; 0 where it is the ticket. */
+static int through_panel(const char *name, const uint8_t *sheet, struct maldjupp_box area, unsigned long long *count) {
+    long long taken = take(sheet, area);
+    if (taken != (long long)(area.x1 - area.x0) * (area.y1 - area.y0)) return failed(name, "the box was not taken through the panel");
+    *count += (unsigned long long)taken;
+    bool same = memcmp(sent, px, 4 * width(sheet) * height(sheet)) == 0;
+    return same ? 0 : failed(name, "what was taken through the panel is not the ticket");
+}
+
 /* Patches from the old sheet to the file's, and holds the pixels to a fresh painting; 0 where all is as it should be. */
 static int patch(const char *name, size_t *n) {
     size_t m = bytes_of(name, new), w = width(old), pixels = w * height(old);
@@ -114,6 +149,8 @@ static int patch(const char *name, size_t *n) {
     maldjupp_paint(new, m, w, fresh, pixels, scratch, words);
     if (memcmp(px, fresh, 4 * pixels) != 0) return failed(name, "the pixels are not those of a fresh painting");
     if (!shown(new)) return failed(name, "the frame does not show the ticket in its place, or was altered around it");
+    struct maldjupp_box area = {r.x0, r.y0, r.x1, r.y1};
+    if (through_panel(name, new, area, &boxed) != 0) return 1;
     const char *file = strrchr(name, '/');
     printf("patched %-16s box %3d x %3d at %3d,%3d: %6llu steps, %6llu grounded\n", file ? file + 1 : name, r.x1 - r.x0, r.y1 - r.y0, r.x0,
            r.y0, (unsigned long long)r.steps, (unsigned long long)r.grounded);
@@ -133,8 +170,9 @@ static int paint(const char *name, size_t n) {
     struct maldjupp_room room = maldjupp_measure(old, n);
     printf("painted %zu x %zu: %zu words of scratch, %zu clips saved at once, %llu pixels in its shapes, %llu steps, %llu grounded\n", w,
            height(old), room.words, room.saved, (unsigned long long)room.pixels, (unsigned long long)r.steps, (unsigned long long)r.grounded);
-    painted = r.steps;
-    return 0;
+    painted = r.steps, panel = maldjupp_panel_fresh(), memset(sent, 255, sizeof sent);
+    struct maldjupp_box area = {r.x0, r.y0, r.x1, r.y1};
+    return through_panel(name, old, area, &whole);
 }
 
 int main(int count, char **given) {
@@ -143,9 +181,13 @@ int main(int count, char **given) {
     if (paint(given[2], n) != 0 || !write_ppm(given[1], "start.ppm", px, width(old), height(old))) return 1;
     for (int i = 3; i < count; i++)
         if (patch(given[i], &n) != 0) return 1;
-    if (!write_ppm(given[1], "ticket.ppm", px, width(old), height(old)) || !write_ppm(given[1], "frame.ppm", frame, pitch, rows)) return 1;
+    if (!write_ppm(given[1], "ticket.ppm", px, width(old), height(old)) || !write_ppm(given[1], "frame.ppm", frame, pitch, rows) ||
+        !write_ppm(given[1], "panel.ppm", sent, width(old), height(old)))
+        return 1;
     printf("%d patches: after each, the pixels are those of a fresh painting\n", count - 3);
     printf("the same within a frame of %zu x %zu: the same pixels and answers, and every word around as it was\n", pitch, rows);
+    printf("taken through the panel: %llu pixels of the painting and %llu of the boxes give the ticket after each patch; ", whole, boxed);
+    printf("the whole picture each time would be %llu\n", whole * (unsigned long long)(count - 3));
     printf("steps that altered a pixel: %llu of the painting, %llu of all patches\n", painted, patched);
     free(frame), free(scratch);
     return 0;

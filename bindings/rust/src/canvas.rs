@@ -1,4 +1,5 @@
 //! The canvas: pixels that are drawn on call by call.
+use crate::panel::{Lent, Picture};
 use crate::raw::{self, Counted, Done, State};
 use crate::{frame, sheet, Color, IRect, Paint, Pt, Rect, Refusal, SheetBuilder};
 
@@ -271,6 +272,14 @@ impl Canvas {
         Ok(steps)
     }
 }
+
+impl Lent for Canvas {
+    fn lent(&self) -> (State, &[u32]) {
+        (self.state, &self.px)
+    }
+}
+
+impl Picture for Canvas {}
 
 #[cfg(test)]
 mod tests {

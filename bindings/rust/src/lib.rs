@@ -48,6 +48,8 @@
 //!
 //! A program that shows sheets can be tried on [`clip_orders`], every small order of clips and fills.
 //!
+//! A panel takes the box of a patch pixel by pixel, through the eight registers of a [`Panel`]; [`Panel::pixels`] is an iterator over them.
+//!
 //! The library is found by the build script: in the folder that `MALDJUPP_LIB_DIR` names, else where `rt staticlib maldjupp` writes it.
 #![deny(unsafe_code)]
 #![warn(missing_docs)]
@@ -57,6 +59,7 @@ mod canvas;
 mod frame;
 mod measure;
 mod orders;
+mod panel;
 #[allow(unsafe_code)]
 mod raw;
 mod refusal;
@@ -69,6 +72,7 @@ pub use canvas::Canvas;
 pub use frame::to_ppm;
 pub use measure::{room, Room};
 pub use orders::{clip_order, clip_orders, ClipOrders, LONGEST_CLIP_ORDER};
+pub use panel::{Panel, Picture, Pixels};
 pub use refusal::{Error, Refusal, Refused, SheetError};
 pub use sheet::{Shape, SheetBuilder};
 pub use ticket::{Altered, FramedTicket, Ticket};

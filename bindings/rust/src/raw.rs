@@ -1,5 +1,5 @@
 //! The functions of the static library, on slices. The only unsafe code is here.
-use crate::{Color, IRect, Paint, Pt, Rect};
+use crate::{Color, IRect, Paint, Panel, Pt, Rect};
 
 /// A number, the item that it names, a box, and what was altered in it: steps of shapes, and pixels by the ground.
 #[repr(C)]
@@ -76,6 +76,21 @@ pub struct Blended {
     pub number: u32,
     pub value: u32,
     pub altered: bool,
+}
+
+/// A number and the panel after a write to its registers.
+#[repr(C)]
+pub struct Stepped {
+    pub number: u32,
+    pub panel: Panel,
+}
+
+/// A number, the pixel handed over, and the panel after a take.
+#[repr(C)]
+pub struct Taken {
+    pub number: u32,
+    pub value: u32,
+    pub panel: Panel,
 }
 
 /// A paint as a kind, two colours and four floats.
@@ -167,6 +182,10 @@ extern "C" {
         color: Color,
         skip_inside: u32,
     ) -> Counted;
+    fn maldjupp_panel_fresh() -> Panel;
+    fn maldjupp_panel_command(panel: Panel, canvas: State, px: *const u32, pixels: usize, value: u8, area: IRect) -> Stepped;
+    fn maldjupp_panel_flags(panel: Panel, canvas: State, px: *const u32, pixels: usize, value: u8) -> Stepped;
+    fn maldjupp_panel_take(panel: Panel, canvas: State, px: *const u32, pixels: usize) -> Taken;
 }
 
 // SAFETY, of every call below: each pointer comes with the length of its slice, and a point is two floats, x and y, without a gap. The
@@ -209,8 +228,34 @@ pub fn blend(old: u32, r: u32, g: u32, b: u32, a: u32) -> Blended {
     unsafe { maldjupp_blend(old, r, g, b, a) }
 }
 
+/// A panel with all registers zero.
+pub fn fresh_panel() -> Panel {
+    unsafe { maldjupp_panel_fresh() }
+}
+
+/// Writes to a panel's command, with a box.
+pub fn write_command(panel: Panel, state: State, px: &[u32], value: u8, area: IRect) -> Stepped {
+    unsafe { maldjupp_panel_command(panel, state, px.as_ptr(), px.len(), value, area) }
+}
+
+/// Writes to a panel's flags.
+pub fn write_flags(panel: Panel, state: State, px: &[u32], value: u8) -> Stepped {
+    unsafe { maldjupp_panel_flags(panel, state, px.as_ptr(), px.len(), value) }
+}
+
+/// Takes the pixel at a panel's column and row.
+pub fn take(panel: Panel, state: State, px: &[u32]) -> Taken {
+    unsafe { maldjupp_panel_take(panel, state, px.as_ptr(), px.len()) }
+}
+
 /// The calls of a canvas, each on its state and on px.
 impl State {
+    /// All of a canvas as clip and nothing saved, as a new one has it; no pixel is touched.
+    pub fn whole(w: usize, h: usize, pitch: usize) -> State {
+        let (w, h) = (w as i32, h as i32);
+        State { w, h, pitch, clip: IRect::new(0, 0, w, h), saved: [IRect::default(); 16], depth: 0 }
+    }
+
     pub fn blank(w: i32, h: i32, pitch: usize, px: &mut [u32]) -> Done {
         unsafe { maldjupp_new(w, h, pitch, px.as_mut_ptr(), px.len()) }
     }
@@ -481,5 +526,94 @@ mod tests {
         let brush = Brush { kind: 0, colors: [Color::rgb(1, 2, 3), Color::WHITE], floats: [f32::NAN; 4] };
         assert_eq!(state.fill_rect(px, Rect::new(-1.0, -1.0, 9.0, 9.0), brush).number, 0);
         assert_eq!(*px, [0x0001_0203]);
+    }
+
+    /// The state of a ticket's pixels is that of a new canvas.
+    #[test]
+    fn a_whole_state_is_that_of_a_new_canvas() {
+        for (w, h, pitch) in [(1, 1, 1), (1, 1, 4096), (3, 2, 3), (3, 2, 5), (2048, 1, 2048), (1, 2048, 9), (2048, 2, 4096)] {
+            let done = State::blank(w as i32, h as i32, pitch, &mut vec![5; pitch * h]);
+            assert_eq!((done.number, State::whole(w, h, pitch)), (0, done.state), "{w} {h} {pitch}");
+        }
+    }
+
+    /// The fields of a panel and of what its steps return stand where the library puts them.
+    #[test]
+    fn the_panels_have_their_places() {
+        assert_eq!([offset_of!(Panel, regs), offset_of!(Panel, held), size_of::<Panel>()], [0, 8, 24]);
+        assert_eq!([offset_of!(Stepped, number), offset_of!(Stepped, panel), size_of::<Stepped>()], [0, 4, 28]);
+        let taken = [offset_of!(Taken, number), offset_of!(Taken, value), offset_of!(Taken, panel), size_of::<Taken>()];
+        assert_eq!(taken, [0, 4, 8, 32]);
+        let held = IRect::new(1, 0, 3, 2);
+        let loaded = write_command(fresh_panel(), State::whole(3, 2, 4), &[0; 8], 1, held);
+        assert_eq!((loaded.number, loaded.panel.regs, loaded.panel.held), (0, [0, 1, 1, 0, 0, 0, 2, 0], held));
+    }
+
+    /// A take hands over all 32 bits, by the pitch, and never a word of a row past the width.
+    #[test]
+    fn a_take_hands_over_whole_words() {
+        let px: Vec<u32> = (0..5 * 3).map(|i| 0xFF00_0000 | i).collect();
+        let state = State::whole(4, 3, 5);
+        let mut panel = write_command(fresh_panel(), state, &px, 1, IRect::new(1, 1, 4, 3)).panel;
+        for i in [6, 7, 8, 11, 12, 13] {
+            let taken = take(panel, state, &px);
+            assert_eq!((taken.number, taken.value), (0, 0xFF00_0000 | i));
+            panel = taken.panel;
+        }
+        assert_eq!((panel.regs, take(panel, state, &px).number), ([0, 128, 0, 0, 0, 0, 0, 0], 22));
+    }
+
+    /// Every step of a panel on a state and px: 1 with a box that is inside and with one that is not, another command, 128, another value, a take.
+    /// Each is refused by a number, the panel comes back as given, and a take hands over 0.
+    fn every_step_refuses(panel: Panel, state: State, px: &[u32], number: u32) {
+        let (inside, outside) = (IRect::new(0, 0, 1, 1), IRect::new(0, 0, 9999, 1));
+        let writes = [
+            write_command(panel, state, px, 1, inside),
+            write_command(panel, state, px, 1, outside),
+            write_command(panel, state, px, 0, inside),
+            write_flags(panel, state, px, 128),
+            write_flags(panel, state, px, 0),
+        ];
+        assert!(writes.iter().all(|stepped| stepped.number == number && stepped.panel == panel), "{number} {panel:?}");
+        let taken = take(panel, state, px);
+        assert_eq!((taken.number, taken.value, taken.panel), (number, 0, panel));
+    }
+
+    /// 12 for the state or the registers, then 15, then 8, each before 20, 21 and 22.
+    #[test]
+    fn the_refusals_of_a_step_in_their_order() {
+        let (state, px) = (State::whole(3, 2, 4), &[7; 8]);
+        let busy = write_command(fresh_panel(), state, px, 1, IRect::new(1, 0, 3, 2)).panel;
+        let damaged = Panel { regs: [1, 0, 0, 0, 0, 0, 0, 0], ..busy };
+        for panel in [fresh_panel(), busy] {
+            for words in [&px[..], &px[..7], &[]] {
+                every_step_refuses(panel, State { depth: 17, ..state }, words, 12);
+                every_step_refuses(panel, State { pitch: 2, depth: 17, ..state }, words, 12);
+                every_step_refuses(damaged, State { pitch: 2, ..state }, words, 12);
+                every_step_refuses(damaged, state, words, 12);
+                for pitch in [0, 2, 4097, usize::MAX] {
+                    every_step_refuses(panel, State { pitch, ..state }, words, 15);
+                }
+            }
+            for words in [&[7; 9][..], &px[..7], &px[..6], &[]] {
+                every_step_refuses(panel, state, words, 8);
+            }
+        }
+    }
+
+    /// The clip and the saved clips of the state do not matter to a step.
+    #[test]
+    fn a_step_under_any_clip() {
+        let (px, mut state) = (&mut [1, 2, 3, 4, 5, 6], State::whole(3, 2, 3));
+        for area in [IRect::new(2, 1, 3, 2), IRect::new(0, 0, 0, 0)] {
+            state = state.push_clip_i(area).state;
+            let mut panel = write_command(fresh_panel(), state, px, 1, IRect::new(0, 0, 3, 2)).panel;
+            for value in 1..=6 {
+                let taken = take(panel, state, px);
+                assert_eq!((taken.number, taken.value), (0, value));
+                panel = taken.panel;
+            }
+            assert_eq!(panel.regs, [0, 128, 0, 0, 0, 0, 0, 0]);
+        }
     }
 }

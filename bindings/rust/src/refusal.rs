@@ -1,7 +1,7 @@
 //! Why the library refuses a call, and why a call of the builder is not carried out.
 use std::{error, fmt};
 
-/// Why the library refused a sheet, a patch, a call of a canvas, a blend or a clip order.
+/// Why the library refused a sheet, a patch, a call of a canvas, a blend, a clip order or a step of a panel.
 #[derive(Clone, Copy, Debug, PartialEq, Eq)]
 #[non_exhaustive]
 pub enum Refusal {
@@ -37,6 +37,12 @@ pub enum Refusal {
     Pitch,
     /// 19
     Buffer,
+    /// 20
+    Command,
+    /// 21
+    FlagWrite,
+    /// 22
+    NotReady,
     /// 23
     Order,
     /// A number that this crate does not know.
@@ -45,7 +51,7 @@ pub enum Refusal {
 
 impl Refusal {
     /// Every refusal that a call gives.
-    pub const ALL: [Refusal; 17] = [
+    pub const ALL: [Refusal; 20] = [
         Refusal::SheetLength,
         Refusal::Header,
         Refusal::Pairs,
@@ -62,6 +68,9 @@ impl Refusal {
         Refusal::Many,
         Refusal::Pitch,
         Refusal::Buffer,
+        Refusal::Command,
+        Refusal::FlagWrite,
+        Refusal::NotReady,
         Refusal::Order,
     ];
 
@@ -84,6 +93,9 @@ impl Refusal {
             Refusal::Many => 14,
             Refusal::Pitch => 15,
             Refusal::Buffer => 19,
+            Refusal::Command => 20,
+            Refusal::FlagWrite => 21,
+            Refusal::NotReady => 22,
             Refusal::Order => 23,
             Refusal::Other(number) => number,
         }
@@ -111,11 +123,14 @@ impl Refusal {
             Refusal::Scratch => "The scratch lent is less than is needed.",
             Refusal::Difference => "The sheets differ in size, ground or item count, or in a push or pop of a clip.",
             Refusal::Ink => "An ink of a blend is over 255.",
-            Refusal::State => "The state is none that a canvas can be in.",
+            Refusal::State => "The call was given a state that a canvas cannot be in, or panel registers out of order.",
             Refusal::Points => "A polygon or polyline has over 64 points.",
             Refusal::Many => "The sheets differ in more than 32 shapes.",
             Refusal::Pitch => "The pitch is below the width or over 4,096.",
             Refusal::Buffer => "The sheet does not fit the buffer.",
+            Refusal::Command => "The command is other than 1, or its box is neither empty nor inside the canvas.",
+            Refusal::FlagWrite => "The value written to the flags is other than 128.",
+            Refusal::NotReady => "A pixel is taken while none is ready.",
             Refusal::Order => "There is no clip order of this number: it is 1,093 or more.",
             Refusal::Other(_) => "The library gave a number that this crate does not know.",
         }

@@ -1,4 +1,6 @@
 //! The ticket: a sheet, and the pixels that show it.
+use crate::panel::{Lent, Picture};
+use crate::raw::State;
 use crate::{frame, raw, sheet, Error, IRect, Refusal, Refused, Shape, SheetBuilder, SheetError};
 
 /// A painted sheet with its pixels. They are always those of its sheet, whatever was edited or refused before.
@@ -245,6 +247,14 @@ impl<P: AsRef<[u32]> + AsMut<[u32]>> Ticket<P> {
         frame::picture(self.width(), self.rows())
     }
 }
+
+impl<P: AsRef<[u32]> + AsMut<[u32]>> Lent for Ticket<P> {
+    fn lent(&self) -> (State, &[u32]) {
+        (State::whole(self.width(), self.height(), self.pitch), self.px())
+    }
+}
+
+impl<P: AsRef<[u32]> + AsMut<[u32]>> Picture for Ticket<P> {}
 
 #[cfg(test)]
 mod tests {

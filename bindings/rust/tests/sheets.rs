@@ -290,6 +290,8 @@ fn every_number_has_its_sentence() {
         assert_eq!(Refusal::of(refusal.number()), Some(refusal));
         assert!(refusal.sentence().ends_with('.'));
     }
+    let numbers: Vec<u32> = Refusal::ALL.map(Refusal::number).to_vec();
+    assert_eq!(numbers, [1, 2, 3, 4, 5, 6, 7, 8, 9, 10, 11, 12, 13, 14, 15, 19, 20, 21, 22, 23]);
     assert_eq!(Refusal::of(0), None);
     assert_eq!(Refusal::of(16), Some(Refusal::Other(16)));
 }
