@@ -149,8 +149,8 @@ impl Transfers {
     /// Prints what was seen; answers whether something was not.
     pub fn lack(&self, told: bool) -> bool {
         let Transfers { paintings, patches, refused, empty, parts, taken, .. } = self;
-        print!("panels: {paintings} paintings and {patches} patches, {refused} refused, {empty} with an empty box, {parts} with a part of several rows, ");
-        println!("{taken} pixels taken, {}", self.frames.told());
+        print!("panels: {paintings} paintings and {patches} patches, {refused} refused, {empty} with an empty box, ");
+        println!("{parts} with a part of several rows, {taken} pixels taken, {}", self.frames.told());
         self.frames.lack(told) | [refused, empty, parts].into_iter().any(|times| *times == 0)
     }
 }
