@@ -50,7 +50,7 @@ fn saved(words: &[u8]) -> [IRect; 16] {
 }
 
 // The state of 72 words: sides, pitch, clip, depth, saved clips.
-fn state(words: &[u8]) -> Canvas {
+pub fn state(words: &[u8]) -> Canvas {
     let depth = word(words, 7) as usize;
     framed(words, saved(from(words, 8)), depth)
 }

@@ -37,7 +37,7 @@ fn left(sheet: &[u8], i: usize) -> u8 {
 }
 
 // Whether a buffer is a sheet, and past it what it was before.
-fn holds(buf: &[u8], sheet: &[u8]) -> bool {
+pub(crate) fn holds(buf: &[u8], sheet: &[u8]) -> bool {
     let mut same = true;
     for i in 0..buf.len() {
         same = same & (buf[i] == left(sheet, i));

@@ -1,11 +1,12 @@
 // Counting a function's stored cases and those that differ. The areas: 0 mathf, 1 color, 2 geom, 3 canvas calls, 4 paints, 5
-// shapes, 6 sheets, 7 patches, 8 small clip orders.
+// shapes, 6 sheets, 7 patches, 8 small clip orders, 9 steps on the panel's registers.
 use crate::clip_orders;
 use crate::lent::as_stored;
 use crate::lent::fill;
 use crate::lent::pixels;
 use crate::lent::same_frame;
 use crate::lent::scratch;
+use crate::panels;
 use crate::sheets;
 use cases::canvas;
 use cases::word::from;
@@ -34,6 +35,7 @@ fn width(area: u32, bytes: &[u8]) -> u32
         4 => 10,
         5 => 102,
         6 | 7 => 254,
+        9 => 95,
         _ => 17 + word(bytes, 0) % 65536 / 4,
     }
 }
@@ -41,7 +43,7 @@ fn width(area: u32, bytes: &[u8]) -> u32
 // What of a case says which words of px a call is lent: their count, base and step.
 fn lent(area: u32, case: &[u8]) -> &[u8] {
     match area {
-        3 => from(case, 5),
+        3 | 9 => from(case, 5),
         5 => from(case, 30),
         _ => from(case, 3),
     }
@@ -51,7 +53,10 @@ fn lent(area: u32, case: &[u8]) -> &[u8] {
 fn lent_scratch(area: u32, case: &[u8]) -> usize
     ensures { λ r. ⌜ r ≤ 4096 ⌝ }
 {
-    let n = if area <= 5 { 4096 } else { word(case, 6) };
+    let n = match area {
+        6 | 7 => word(case, 6),
+        _ => 4096,
+    };
     least(n as usize, 4096)
 }
 
@@ -66,16 +71,19 @@ fn said(area: u32, case: &[u8], px: &mut [u32], scratch: &mut [f32]) -> bool {
     match area {
         3 => canvas::said(case, px),
         5 => shaped(case, px, scratch),
+        9 => panels::said(case, px),
         _ => sheets::said(case, px, scratch),
     }
 }
 
-// Whether a call left px and scratch as stored.
+// Whether a call left px and scratch as stored. Of a step on the panel's registers nothing is stored past its 95 words: px are as
+// they were.
 fn left(area: u32, case: &[u8], px: &[u32], scratch: &[f32]) -> bool {
     let steps = from(lent(area, case), 1);
     match area {
         3 => same_frame(px, steps, from(case, 85), 0),
         5 => as_stored(px, scratch, steps, from(case, 33)),
+        9 => same_frame(px, steps, from(case, 95), 0),
         _ => as_stored(px, scratch, steps, from(case, 16)),
     }
 }

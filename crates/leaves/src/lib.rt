@@ -4,6 +4,7 @@
 mod clip_orders;
 mod counting;
 mod lent;
+mod panels;
 mod sheets;
 
 pub use crate::counting::ALL;

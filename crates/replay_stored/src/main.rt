@@ -48,6 +48,7 @@ fn functions(area: u32) -> u32 {
         4 => 6,
         6 => 1,
         7 => 3,
+        9 => 4,
         _ => 5,
     }
 }
@@ -80,7 +81,7 @@ fn replay_next(buf: &mut [u8], area: u32) {
 }
 
 fn replay_all(buf: &mut [u8]) {
-    for area in 0..9 {
+    for area in 0..10 {
         replay_next(buf, area);
     }
 }

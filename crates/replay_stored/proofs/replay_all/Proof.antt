@@ -7,10 +7,10 @@ use Rattle.replay_stored.proofs.replay_all.Statement.{statement}
 use Rattle.replay_stored.proofs.replay_all.Tie as tie
 
 abbrev Inv-loop : tie.InvT-loop
-Inv-loop buf₀ area₀ buf area = (area ≤ 9) × (length buf ≡ length buf₀)
+Inv-loop buf₀ area₀ buf area = (area ≤ 10) × (length buf ≡ length buf₀)
 
 abbrev μ-loop : tie.MeasureT-loop
-μ-loop buf₀ area₀ buf area = 9 - area
+μ-loop buf₀ area₀ buf area = 10 - area
 
 loop-holds : tie.Need-loop-holds Inv-loop μ-loop
 loop-holds c = omega arith

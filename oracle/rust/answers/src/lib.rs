@@ -8,8 +8,11 @@ pub mod geom;
 pub mod lent;
 pub mod mathf;
 pub mod paint;
+pub mod panel;
+pub mod panel_random;
 pub mod random;
 pub mod shape;
+pub mod state;
 pub mod steps;
 
 /// A float as it is stored: its bits, every NaN as one pattern, since only the bits of a NaN are free.

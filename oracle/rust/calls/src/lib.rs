@@ -1,8 +1,10 @@
-//! The sheet calls, measuring, the call of the clip orders and the canvas calls on pixels of the crate `maldjupp`, on lent memory. A slice
-//! passes as a pointer and a length.
+//! The sheet calls, measuring, the call of the clip orders, the canvas calls on pixels and the panel's steps of the crate `maldjupp`, on lent
+//! memory. A slice passes as a pointer and a length.
 pub mod boxes;
 pub mod ceilings;
+pub mod panels;
 pub mod rooms;
+pub mod transfers;
 
 use answers::{
     frame::{Frame, Frames},
@@ -13,19 +15,8 @@ use sheets::{orders::Written, After, Answer, Room};
 
 /// The functions as they are exported.
 pub mod raw {
+    pub use answers::{panel::Panel, state::State};
     use sheets::{orders::Written, Answer, Room};
-
-    /// The state of a canvas: sides, pitch, clip and saved clips, of which `depth` are in use.
-    #[repr(C)]
-    #[derive(Clone, Copy, Debug, PartialEq)]
-    pub struct State {
-        pub w: i32,
-        pub h: i32,
-        pub pitch: usize,
-        pub clip: [i32; 4],
-        pub saved: [[i32; 4]; 16],
-        pub depth: usize,
-    }
 
     /// What a canvas call returns.
     #[repr(C)]
@@ -42,15 +33,7 @@ pub mod raw {
         pub value: u32,
     }
 
-    /// The panel's eight bytes, and the box last loaded.
-    #[repr(C)]
-    #[derive(Clone, Copy, Debug, PartialEq)]
-    pub struct Panel {
-        pub regs: [u8; 8],
-        pub held: [i32; 4],
-    }
-
-    /// A box.
+    /// A box, which goes by value.
     #[repr(C)]
     #[derive(Clone, Copy)]
     pub struct Area {

@@ -16,6 +16,7 @@ mod mathf;
 mod orders;
 mod paint;
 mod paintsheet;
+mod panel;
 mod shape;
 mod sheet;
 
@@ -98,6 +99,7 @@ fn main() {
     printed.stored(&folder, "sheets", sheet::paintings());
     printed.stored(&folder, "patches", sheet::patches());
     printed.area(&folder, "orders", &orders::bytes(), &orders::COUNTS, orders::SHEETS);
+    printed.stored(&folder, "panels", panel::stored());
     fs::write(folder.join("stdout"), printed.0).unwrap();
     paintsheet::write(&given(2).join("paintsheet"), &given(1).join("paintsheet"));
 }
