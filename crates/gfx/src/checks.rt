@@ -3,6 +3,7 @@ use draw::frame_number;
 use geom::IRect;
 use geom::max_i;
 use geom::nat_of;
+ghost use mathlib.Core.Bool.{cond};
 ghost use mathlib.Core.Path.{_≡_};
 ghost use Rattle.gfx.specs.State.{sideOk, rangeIn, inCanvas, clipOk, bothZero, fourZeros};
 ghost use Rattle.gfx.specs.Calls.{raised, sizeNumber, newNumber};
@@ -42,10 +43,21 @@ fn both_zero(a: i32, b: i32) -> bool
 }
 
 // An unused place holds four zeros.
-pub(crate) fn four_zeros(b: IRect) -> bool
+fn four_zeros(b: IRect) -> bool
     ensures { λ r. ⌜ r ≡ fourZeros b ⌝ }
 {
     both_zero(b.x0, b.y0) && both_zero(b.x1, b.y1)
+}
+
+// A place of the saved clips: a clip where it is in use, else four zeros.
+pub(crate) fn place_ok(w: i32, h: i32, used: bool, b: IRect) -> bool
+    ensures { λ r. ⌜ r ≡ cond used (clipOk w h b) (fourZeros b) ⌝ }
+{
+    if used {
+        clip_ok(w, h, b)
+    } else {
+        four_zeros(b)
+    }
 }
 
 // A side below 1 is raised to 1.

@@ -4,9 +4,9 @@ mod checks;
 pub mod points;
 
 use crate::checks::clip_ok;
-use crate::checks::four_zeros;
 use crate::checks::in_canvas;
 use crate::checks::new_number;
+use crate::checks::place_ok;
 use crate::checks::raise;
 use crate::checks::side_ok;
 use crate::checks::size_number;
@@ -31,7 +31,7 @@ ghost use Rattle.color.specs.Colours.{pixOf};
 ghost use Rattle.draw.specs.Areas.{RowFits, AreaFits, drawnIn, area};
 ghost use Rattle.draw.specs.Frame.{framed};
 ghost use lib.IntN.{pos};
-ghost use Rattle.gfx.specs.State.{inCanvas, placeOk, placesOk, frameOk, validOf, freshOf, pushed, unsaved, popped};
+ghost use Rattle.gfx.specs.State.{inCanvas, placesOk, frameOk, validOf, freshOf, pushed, unsaved, popped};
 ghost use Rattle.gfx.specs.Calls.{Called, answer, boxAnswer, pixelAnswer, raised, newNumber, resizeNumber, sameSize};
 ghost use Rattle.gfx.specs.Calls.{resized, resizedPx, stateNumber, pushBoxNumber, pushNumber, pxNumber, clearedTo};
 ghost use Rattle.gfx.specs.Calls.{shapeNumber, nearestIn, pixelAt};
@@ -121,26 +121,14 @@ impl Canvas {
         }
     }
 
-    // The place i of the saved clips: a clip where it is in use, else four zeros.
-    fn place_ok(self, i: usize) -> bool
-        requires { ⌜ i < 16 ⌝ }
-        ensures { λ r. ⌜ r ≡ placeOk self i ⌝ }
-    {
-        let saved = self.saved;
-        let b = saved[i];
-        if i < self.depth {
-            clip_ok(self.w, self.h, b)
-        } else {
-            four_zeros(b)
-        }
-    }
-
     // Whether each place of the saved clips is all right.
     fn places_ok(self) -> bool
         ensures { λ r. ⌜ r ≡ placesOk self 16 ⌝ }
     {
+        let saved = self.saved;
         for i in 0..16 {
-            if !self.place_ok(i) {
+            let b = saved[i];
+            if !place_ok(self.w, self.h, i < self.depth, b) {
                 return false;
             }
         }

@@ -9,22 +9,18 @@ use cases::word::from;
 use cases::word::upto;
 use cases::word::word;
 use panel::Panel;
-
-// The byte at place i; one that is not there is 0.
-fn byte(bytes: &[u8], i: usize) -> u8 {
-    if i < bytes.len() { bytes[i] } else { 0 }
-}
+use sheet::byte_at;
 
 fn registers(bytes: &[u8]) -> [u8; 8] {
     [
-        byte(bytes, 0),
-        byte(bytes, 1),
-        byte(bytes, 2),
-        byte(bytes, 3),
-        byte(bytes, 4),
-        byte(bytes, 5),
-        byte(bytes, 6),
-        byte(bytes, 7),
+        byte_at(bytes, 0),
+        byte_at(bytes, 1),
+        byte_at(bytes, 2),
+        byte_at(bytes, 3),
+        byte_at(bytes, 4),
+        byte_at(bytes, 5),
+        byte_at(bytes, 6),
+        byte_at(bytes, 7),
     ]
 }
 
@@ -37,7 +33,7 @@ fn given(case: &[u8]) -> Panel {
 
 // The byte that a step writes.
 fn written(case: &[u8]) -> u8 {
-    byte(from(case, 80), 0)
+    byte_at(from(case, 80), 0)
 }
 
 // Whether a step answered as stored: number, pixel, every byte of the registers, and the held box.
