@@ -20,8 +20,8 @@ use Rattle.geom.proofs.Bools.{and-left, and-right, and-both, split}
 use Rattle.gfx.specs.declared.Canvas.{Canvas}
 use Rattle.panel.specs.declared.Panel.{Panel}
 use Rattle.panel.specs.Registers.{commandOf, flagsOf, column, row, pixelsLeft, ready, freshPanel, panelOf, placeIn}
-use Rattle.panel.specs.Registers.{transferOk, flagsOk, panelOk, commandOk, commandNumber, flagsNumber, takeNumber, widthOf}
-use Rattle.panel.specs.Registers.{finished, rowStart, loaded, acknowledged, nextColumn, movedOn}
+use Rattle.panel.specs.Registers.{transferOk, flagsOk, panelOk, commandOk, commandNumber, flagsNumber, takeNumber}
+use Rattle.panel.specs.Registers.{columnsIn, finished, rowStart, loaded, acknowledged, nextColumn, movedOn}
 use Rattle.panel.specs.Lists.{Step, command, flags, takes, numberOf, panelAfter, Does}
 use Rattle.panel.proofs.Places.{column-of, row-of, left-of, Place, in-place, next-place, Inner, row-place, loading}
 use Rattle.panel.proofs.Places.{step-open, taking, moves}
@@ -111,10 +111,10 @@ module _ (p : Panel) where
 
 -- ---- steps
 
-ok-row : (c : Canvas) (f y : ℕ) (b : IRect) → flagsOk f ≡ true → Inner c b → Place b (up (b .x0)) y (widthOf b)
+ok-row : (c : Canvas) (f y : ℕ) (b : IRect) → flagsOk f ≡ true → Inner c b → Place b (up (b .x0)) y (columnsIn b)
     → panelOk c (rowStart f y b) ≡ true
 unfolding rowStart
-ok-row c f y b k h s = ok-at c f (up (b .x0)) y (widthOf b) b k h s
+ok-row c f y b k h s = ok-at c f (up (b .x0)) y (columnsIn b) b k h s
 
 ok-next : (c : Canvas) (p : Panel) → flagsOk (flagsOf p) ≡ true → Inner c (p .held)
     → Place (p .held) (column p + 1) (row p) (pixelsLeft p - 1) → panelOk c (nextColumn p) ≡ true

@@ -35,7 +35,7 @@ use Rattle.gfx.proofs.Valid.{Side, frame, side-of, valid-of, clip-cases}
 use Rattle.panel.specs.declared.Panel.{Panel}
 use Rattle.panel.specs.Registers.{commandOf, flagsOf, column, row, pixelsLeft, ready, panelOf, placeIn, transferOk}
 use Rattle.panel.specs.Registers.{flagsOk, panelOk, panelNumber, stepNumber, commandOk, commandNumber, takeNumber}
-use Rattle.panel.specs.Registers.{widthOf, finished, rowStart, nextColumn, movedOn}
+use Rattle.panel.specs.Registers.{columnsIn, finished, rowStart, nextColumn, movedOn}
 
 -- ---- registers that were written
 
@@ -135,7 +135,7 @@ inner-of c b v e i =
 
 -- the first column of a row
 pub row-place : {c : Canvas} {b : IRect} → Inner c b → (y : ℕ) → up (b .y0) ≤ y → y < up (b .y1)
-    → Place b (up (b .x0)) y (widthOf b)
+    → Place b (up (b .x0)) y (columnsIn b)
 row-place h y t e = record { from = omega arith; upto = h .across; top = t; below = e; rest = omega (arith, h .across) }
 
 -- ---- registers in order

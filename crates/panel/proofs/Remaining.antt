@@ -23,8 +23,8 @@ use Rattle.geom.proofs.Int.{leZ-true}
 use Rattle.draw.proofs.Rows.{room-of}
 use Rattle.gfx.specs.declared.Canvas.{Canvas}
 use Rattle.gfx.proofs.Sizes.{Open}
-use Rattle.panel.specs.Registers.{widthOf, heightOf}
-use Rattle.panel.specs.Lists.{rowsOf, pixelsOf, sizeOf}
+use Rattle.panel.specs.Registers.{columnsIn, rowsIn}
+use Rattle.panel.specs.Lists.{rowsOf, boxPixels, sizeOf}
 use Rattle.panel.proofs.Places.{Inner}
 
 up-le : (a b : ℤ) → leZ a b ≡ true → up a ≤ up b
@@ -32,15 +32,15 @@ up-le (pos a) b e = omega (arith, leZ-true (pos a) b e)
 up-le (negsuc a) b e = omega arith
 
 -- an empty box has no column or no row, and so no size
-no-side : (b : IRect) → empty b ≡ true → (widthOf b ≡ 0) ⊎ (heightOf b ≡ 0)
+no-side : (b : IRect) → empty b ≡ true → (columnsIn b ≡ 0) ⊎ (rowsIn b ≡ 0)
 unfolding empty
 no-side b e =
-    split (leZ (b .x1) (b .x0)) (λ t. t || leZ (b .y1) (b .y0) ≡ true → (widthOf b ≡ 0) ⊎ (heightOf b ≡ 0))
+    split (leZ (b .x1) (b .x0)) (λ t. t || leZ (b .y1) (b .y0) ≡ true → (columnsIn b ≡ 0) ⊎ (rowsIn b ≡ 0))
     (λ q _. inl (omega (arith, up-le (b .x1) (b .x0) q))) (λ q k. inr (omega (arith, up-le (b .y1) (b .y0) k))) e
 
 pub no-size : (b : IRect) → empty b ≡ true → sizeOf b ≡ 0
 no-size b e =
-    ⊎-elim (λ (z : widthOf b ≡ 0). rw z (zero-mul (heightOf b))) (λ (z : heightOf b ≡ 0). rw z (mul-zero (widthOf b)))
+    ⊎-elim (λ (z : columnsIn b ≡ 0). rw z (zero-mul (rowsIn b))) (λ (z : rowsIn b ≡ 0). rw z (mul-zero (columnsIn b)))
     (no-side b e)
 
 module _ (px : List ℕ) (pitch : ℕ) where
@@ -53,11 +53,11 @@ module _ (px : List ℕ) (pitch : ℕ) where
   unfolding rowsOf
   no-height x y w = refl
 
-  pub none-of : (b : IRect) → empty b ≡ true → pixelsOf px pitch b ≡ []
-  unfolding pixelsOf
+  pub none-of : (b : IRect) → empty b ≡ true → boxPixels px pitch b ≡ []
+  unfolding boxPixels
   none-of b e =
-      ⊎-elim (λ (z : widthOf b ≡ 0). rw z (no-width (up (b .x0)) (up (b .y0)) (heightOf b)))
-      (λ (z : heightOf b ≡ 0). rw z (no-height (up (b .x0)) (up (b .y0)) (widthOf b))) (no-side b e)
+      ⊎-elim (λ (z : columnsIn b ≡ 0). rw z (no-width (up (b .x0)) (up (b .y0)) (rowsIn b)))
+      (λ (z : rowsIn b ≡ 0). rw z (no-height (up (b .x0)) (up (b .y0)) (columnsIn b))) (no-side b e)
 
   -- so many words of so many rows, where each row lies in px
   rows-length : (x y w h bottom : ℕ) → x + w ≤ pitch → y + h ≤ bottom → bottom * pitch ≤ length px
@@ -74,12 +74,12 @@ module _ (px : List ℕ) (pitch : ℕ) where
   unfoldable pub remaining : ℕ → ℕ → ℕ → IRect → List ℕ
   remaining x y l b =
       take l (drop (y * pitch + x) px)
-      ++ rowsOf px pitch (up (b .x0)) (y + 1) (widthOf b) (up (b .y1) - (y + 1))
+      ++ rowsOf px pitch (up (b .x0)) (y + 1) (columnsIn b) (up (b .y1) - (y + 1))
 
   pub remaining-all : (b : IRect) → up (b .y0) < up (b .y1)
-      → remaining (up (b .x0)) (up (b .y0)) (widthOf b) b ≡ pixelsOf px pitch b
-  unfolding remaining pixelsOf rowsOf
-  remaining-all b h = let e : heightOf b ≡ suc (up (b .y1) - (up (b .y0) + 1)) = omega arith in rw e
+      → remaining (up (b .x0)) (up (b .y0)) (columnsIn b) b ≡ boxPixels px pitch b
+  unfolding remaining boxPixels rowsOf
+  remaining-all b h = let e : rowsIn b ≡ suc (up (b .y1) - (up (b .y0) + 1)) = omega arith in rw e
 
   module _ (x y l : ℕ) (b : IRect) (inside-px : y * pitch + x < length px) where
     -- the next pixel, of a row with k more to come
@@ -91,7 +91,7 @@ module _ (px : List ℕ) (pitch : ℕ) where
 
     -- the last of a row, with a row below
     pub remaining-row : l ≡ 1 → y + 1 < up (b .y1)
-        → remaining x y l b ≡ getD px (y * pitch + x) 0 ∷ remaining (up (b .x0)) (y + 1) (widthOf b) b
+        → remaining x y l b ≡ getD px (y * pitch + x) 0 ∷ remaining (up (b .x0)) (y + 1) (columnsIn b) b
     unfolding remaining rowsOf
     remaining-row e h =
         let f : up (b .y1) - (y + 1) ≡ suc (up (b .y1) - (y + 1 + 1)) = omega arith in
@@ -105,10 +105,10 @@ module _ (px : List ℕ) (pitch : ℕ) where
         rw (e, drop-cons px (y * pitch + x) 0 inside-px, f)
 
 pub size-of : (c : Canvas) (px : List ℕ) (b : IRect) → Open c (length px) → Inner c b
-    → length (pixelsOf px (c .pitch) b) ≡ sizeOf b
-unfolding pixelsOf
+    → length (boxPixels px (c .pitch) b) ≡ sizeOf b
+unfolding boxPixels
 size-of c px b o h =
     let long : up (c .h) * c .pitch ≤ length px = rw (o .frame .long, mul-comm (c .pitch) (up (c .h))) (omega arith) in
-    let across : up (b .x0) + widthOf b ≤ c .pitch = omega (arith, h .across, h .right, o .frame .rows .room) in
-    let down : up (b .y0) + heightOf b ≤ up (c .h) = omega (arith, h .down, h .bottom) in
-    rows-length px (c .pitch) (up (b .x0)) (up (b .y0)) (widthOf b) (heightOf b) (up (c .h)) across down long
+    let across : up (b .x0) + columnsIn b ≤ c .pitch = omega (arith, h .across, h .right, o .frame .rows .room) in
+    let down : up (b .y0) + rowsIn b ≤ up (c .h) = omega (arith, h .down, h .bottom) in
+    rows-length px (c .pitch) (up (b .x0)) (up (b .y0)) (columnsIn b) (rowsIn b) (up (c .h)) across down long

@@ -20,10 +20,10 @@ use Rattle.gfx.proofs.Sizes.{Open, open-number}
 use Rattle.panel.specs.declared.Panel.{Panel}
 use Rattle.panel.specs.declared.Taken.{Taken}
 use Rattle.panel.specs.Registers.{flagsOf, column, row, pixelsLeft, ready, freshPanel, panelOf, panelOk, panelNumber}
-use Rattle.panel.specs.Registers.{commandNumber, flagsNumber, takeNumber, widthOf, finished, rowStart, loaded, acknowledged}
-use Rattle.panel.specs.Registers.{nextColumn, movedOn, pixelIn, Takes}
+use Rattle.panel.specs.Registers.{commandNumber, flagsNumber, takeNumber, columnsIn, finished, rowStart, loaded}
+use Rattle.panel.specs.Registers.{acknowledged, nextColumn, movedOn, pixelIn, Takes}
 use Rattle.panel.specs.Lists.{Step, command, flags, takes, panelAfter, Does, Follows, endOf, Transfer, begun}
-use Rattle.panel.specs.Lists.{withPixel, afterStep, afterSteps, transferOf, pixelsOf, sizeOf, ownNumber, Transfers, Panels}
+use Rattle.panel.specs.Lists.{withPixel, afterStep, afterSteps, transferOf, boxPixels, sizeOf, ownNumber, Transfers, Panels}
 use Rattle.panel.proofs.Places.{column-of, row-of, left-of, Place, next-place, Inner, row-place, Underway, loading}
 use Rattle.panel.proofs.Places.{ready-by, not-ready, taking, pixel-inside, moves}
 use Rattle.panel.proofs.Remaining.{none-of, no-size, size-of, remaining, remaining-all, remaining-more, remaining-row}
@@ -40,8 +40,8 @@ record Here (c : Canvas) (px : List ℕ) (p : Panel) (t : Transfer) (rest : List
 -- what was handed over, and then what remains, is the box
 record Progress (c : Canvas) (px : List ℕ) (p : Panel) (t : Transfer) : Type 0 where
   rest : List ℕ
-  whole : t .pixels ++ rest ≡ pixelsOf px (c .pitch) (t .box)
-  size : length (pixelsOf px (c .pitch) (t .box)) ≡ sizeOf (t .box)
+  whole : t .pixels ++ rest ≡ boxPixels px (c .pitch) (t .box)
+  size : length (boxPixels px (c .pitch) (t .box)) ≡ sizeOf (t .box)
   done : ready p ≡ false → rest ≡ []
   here : ready p ≡ true → Here c px p t rest
 
@@ -51,8 +51,8 @@ module _ (c : Canvas) (px : List ℕ) where
 
   -- a place that was written, with all that remains from there
   at-place : (f x y l : ℕ) (b : IRect) (t : Transfer) → eqb (f % 2) 1 ≡ true → Open c n → Inner c b → Place b x y l → t .box ≡ b
-      → length (pixelsOf px (c .pitch) (t .box)) ≡ sizeOf (t .box)
-      → t .pixels ++ remaining px (c .pitch) x y l b ≡ pixelsOf px (c .pitch) (t .box) → Progress c px (panelOf f x y l b) t
+      → length (boxPixels px (c .pitch) (t .box)) ≡ sizeOf (t .box)
+      → t .pixels ++ remaining px (c .pitch) x y l b ≡ boxPixels px (c .pitch) (t .box) → Progress c px (panelOf f x y l b) t
   at-place f x y l b t k o h s e z g =
       record {
         rest = remaining px (c .pitch) x y l b;
@@ -67,19 +67,19 @@ module _ (c : Canvas) (px : List ℕ) where
       }
 
   at-row : (f y : ℕ) (b : IRect) (t : Transfer) → eqb (f % 2) 1 ≡ true → Open c n → Inner c b
-      → Place b (up (b .x0)) y (widthOf b) → t .box ≡ b → length (pixelsOf px (c .pitch) (t .box)) ≡ sizeOf (t .box)
-      → t .pixels ++ remaining px (c .pitch) (up (b .x0)) y (widthOf b) b ≡ pixelsOf px (c .pitch) (t .box)
+      → Place b (up (b .x0)) y (columnsIn b) → t .box ≡ b → length (boxPixels px (c .pitch) (t .box)) ≡ sizeOf (t .box)
+      → t .pixels ++ remaining px (c .pitch) (up (b .x0)) y (columnsIn b) b ≡ boxPixels px (c .pitch) (t .box)
       → Progress c px (rowStart f y b) t
   unfolding rowStart
-  at-row f y b t k o h s e z g = at-place f (up (b .x0)) y (widthOf b) b t k o h s e z g
+  at-row f y b t k o h s e z g = at-place f (up (b .x0)) y (columnsIn b) b t k o h s e z g
 
   -- no pixel is ready
-  at-end : (b : IRect) (t : Transfer) → length (pixelsOf px (c .pitch) (t .box)) ≡ sizeOf (t .box)
-      → t .pixels ++ [] ≡ pixelsOf px (c .pitch) (t .box) → Progress c px (finished b) t
+  at-end : (b : IRect) (t : Transfer) → length (boxPixels px (c .pitch) (t .box)) ≡ sizeOf (t .box)
+      → t .pixels ++ [] ≡ boxPixels px (c .pitch) (t .box) → Progress c px (finished b) t
   at-end b t z g = record { rest = []; whole = g; size = z; done = λ q. refl; here = λ q. absurd (not-ready b q) }
 
   -- an empty box was loaded, or none yet
-  empty-size : (b : IRect) → empty b ≡ true → length (pixelsOf px (c .pitch) b) ≡ sizeOf b
+  empty-size : (b : IRect) → empty b ≡ true → length (boxPixels px (c .pitch) b) ≡ sizeOf b
   empty-size b q = rw (none-of px (c .pitch) b q, no-size b q)
 
   -- ---- a load
@@ -136,7 +136,7 @@ module _ (c : Canvas) (px : List ℕ) where
 
     -- the pixel, and what remains after it
     one : (tail : List ℕ) → remaining px (c .pitch) (column p) (row p) (pixelsLeft p) b ≡ v ∷ tail
-        → t .pixels ++ (v ∷ []) ++ tail ≡ pixelsOf px (c .pitch) (t .box)
+        → t .pixels ++ (v ∷ []) ++ tail ≡ boxPixels px (c .pitch) (t .box)
     one tail q = append-snoc (t .pixels) v tail ∙ ap (λ (l : List ℕ). t .pixels ++ l) (sym q ∙ sym (came .from)) ∙ g .whole
 
     take-along : 1 < pixelsLeft p → Progress c px (nextColumn p) next
@@ -243,10 +243,10 @@ module _ (c : Canvas) (px : List ℕ) where
         none : ready p ≡ false → sizeOf (t .box) ≤ length (t .pixels)
         none q = let z : length (g .rest) ≡ 0 = ap length (g .done q) in omega (arith, total, z)
 
-    first-of : t .pixels ≡ take (length (t .pixels)) (pixelsOf px (c .pitch) (t .box))
+    first-of : t .pixels ≡ take (length (t .pixels)) (boxPixels px (c .pitch) (t .box))
     first-of = rw (← g .whole) (sym (take-append-seam (t .pixels) (g .rest)))
 
-    all-of : length (t .pixels) ≡ sizeOf (t .box) → t .pixels ≡ pixelsOf px (c .pitch) (t .box)
+    all-of : length (t .pixels) ≡ sizeOf (t .box) → t .pixels ≡ boxPixels px (c .pitch) (t .box)
     all-of e =
         let full : sizeOf (t .box) ≤ length (t .pixels) = omega (arith, e) in
         let q = ready-is ∙ le-ltb (length (t .pixels)) (sizeOf (t .box)) full in

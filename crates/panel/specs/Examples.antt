@@ -15,7 +15,7 @@ use Rattle.panel.specs.declared.Panel.{Panel}
 use Rattle.panel.specs.Registers.{column, row, pixelsLeft, ready, freshPanel, placeIn, transferOk, flagsOk, panelOk}
 use Rattle.panel.specs.Registers.{panelNumber, commandOk, commandNumber, flagsNumber, takeNumber, finished, rowStart}
 use Rattle.panel.specs.Registers.{loaded, acknowledged, nextColumn, movedOn, pixelIn}
-use Rattle.panel.specs.Lists.{rowsOf, pixelsOf}
+use Rattle.panel.specs.Lists.{rowsOf, boxPixels}
 
 -- the canvas, with a pitch, and its px
 abbrev canvas : ℕ → Canvas
@@ -60,9 +60,9 @@ pub registers :
     -- two bytes, the lower first: 300 columns from column 517 on
     × (loaded (boxOf (pos 517) (pos 0) (pos 817) (pos 1)) .regs ≡ 0 ∷ 1 ∷ 5 ∷ 2 ∷ 0 ∷ 0 ∷ 44 ∷ 1 ∷ [])
     -- the pixels, row by row, by the pitch
-    × (pixelsOf px 4 right ≡ 11 ∷ 12 ∷ 21 ∷ 22 ∷ [])
+    × (boxPixels px 4 right ≡ 11 ∷ 12 ∷ 21 ∷ 22 ∷ [])
     × (pixelIn (canvas 4) px one ≡ 12)
-unfolding loaded rowStart finished movedOn nextColumn acknowledged column row pixelsLeft pixelIn pixelsOf rowsOf empty freshOf
+unfolding loaded rowStart finished movedOn nextColumn acknowledged column row pixelsLeft pixelIn boxPixels rowsOf empty freshOf
 registers = (refl, refl, refl, refl, refl, refl, refl, refl, refl, refl)
 
 pub numbers :

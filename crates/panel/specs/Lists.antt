@@ -14,7 +14,7 @@ use Rattle.gfx.specs.declared.Canvas.{Canvas}
 use Rattle.panel.specs.declared.Panel.{Panel}
 use Rattle.panel.specs.declared.Stepped.{Stepped}
 use Rattle.panel.specs.declared.Taken.{Taken}
-use Rattle.panel.specs.Registers.{freshPanel, panelOk, commandOk, widthOf, heightOf, finished}
+use Rattle.panel.specs.Registers.{freshPanel, panelOk, commandOk, columnsIn, rowsIn, finished}
 use Rattle.panel.specs.Registers.{WritesCommand, WritesFlags, Takes}
 
 -- ---- a list of steps
@@ -84,12 +84,12 @@ rowsOf px pitch x y w zero = []
 rowsOf px pitch x y w (suc h) = take w (drop (y * pitch + x) px) ++ rowsOf px pitch x (y + 1) w h
 
 -- the pixels of a box, row by row
-unfoldable pub pixelsOf : List ℕ → ℕ → IRect → List ℕ
-pixelsOf px pitch b = rowsOf px pitch (up (b .x0)) (up (b .y0)) (widthOf b) (heightOf b)
+unfoldable pub boxPixels : List ℕ → ℕ → IRect → List ℕ
+boxPixels px pitch b = rowsOf px pitch (up (b .x0)) (up (b .y0)) (columnsIn b) (rowsIn b)
 
 -- how many there are
 abbrev pub sizeOf : IRect → ℕ
-sizeOf b = widthOf b * heightOf b
+sizeOf b = columnsIn b * rowsIn b
 
 -- ---- the claim
 
@@ -103,9 +103,9 @@ ownNumber c t (takes r) = unless (ltb (length (t .pixels)) (sizeOf (t .box))) 22
 pub record Transfers (c : Canvas) (px : List ℕ) (p : Panel) (t : Transfer) : Type 0 where
   -- "the pixels that accepted takes handed over since the last accepted load are the first so many of its box, row by row";
   -- before any load there are none
-  pub handed : t .pixels ≡ take (length (t .pixels)) (pixelsOf px (c .pitch) (t .box))
+  pub handed : t .pixels ≡ take (length (t .pixels)) (boxPixels px (c .pitch) (t .box))
   -- after as many as the box has, all of it was handed over
-  pub all : length (t .pixels) ≡ sizeOf (t .box) → t .pixels ≡ pixelsOf px (c .pitch) (t .box)
+  pub all : length (t .pixels) ≡ sizeOf (t .box) → t .pixels ≡ boxPixels px (c .pitch) (t .box)
   -- the registers are in order
   pub ordered : panelOk c p ≡ true
   -- so the next step is never refused by 12 for its registers: its number is that of state and px, or of its only check

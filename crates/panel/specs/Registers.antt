@@ -98,11 +98,11 @@ takeNumber c n p = stepNumber c n p (ready p) 22
 -- ---- the panel after a step
 
 -- the columns and the rows of a box
-abbrev pub widthOf : IRect → ℕ
-widthOf b = up (b .x1) - up (b .x0)
+abbrev pub columnsIn : IRect → ℕ
+columnsIn b = up (b .x1) - up (b .x0)
 
-abbrev pub heightOf : IRect → ℕ
-heightOf b = up (b .y1) - up (b .y0)
+abbrev pub rowsIn : IRect → ℕ
+rowsIn b = up (b .y1) - up (b .y0)
 
 -- bytes 2 to 7 zero, and bit 7 alone set: "finished", and after the last take "the interrupt"
 unfoldable pub finished : IRect → Panel
@@ -110,7 +110,7 @@ finished b = panelOf 128 0 0 0 b
 
 -- the first pixel of row y of a box, with flags f
 unfoldable pub rowStart : ℕ → ℕ → IRect → Panel
-rowStart f y b = panelOf f (up (b .x0)) y (widthOf b) b
+rowStart f y b = panelOf f (up (b .x0)) y (columnsIn b) b
 
 -- "clears the flags, loads its corner and width and sets flag bit 0"; "an empty box, held as given, zeroes bytes 2-7 and sets bit
 -- 7, finished, instead"
