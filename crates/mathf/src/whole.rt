@@ -10,8 +10,8 @@ use crate::convert::to_i32;
 // x without its fraction, for an x from 0 up to 2^23, from where on a float has none. The sum with
 // 2^23 is one of the two whole numbers next to it, and from there on patterns count the whole numbers.
 pub(crate) fn cut(x: f32) -> u32
-    requires t { T (Ieee.lt (fin false 0 (pos 0)) x) ⊎ (x ≡ fin false 0 (pos 0)) }
-    requires t_2 { T (Ieee.lt x (fin false 1 (pos 23))) }
+    requires not_negative { T (Ieee.lt (fin false 0 (pos 0)) x) ⊎ (x ≡ fin false 0 (pos 0)) }
+    requires in_range { T (Ieee.lt x (fin false 1 (pos 23))) }
     ensures { result ≡ Ieee.to_unsigned 23 x }
 {
     let n = f32::to_bits(x + 8388608.0) - 0x4b00_0000;
