@@ -9,7 +9,7 @@ use crate::accum::{f32_of, row_accum};
 use geom::Pt;
 
 // An edge that runs down from top to bottom, with x where its first row begins. dir is -1 where it ran up.
-#[derive(Drop)]
+#[derive(Clone, Copy)]
 pub struct Edge {
     pub x: f32,
     pub top: f32,

@@ -1,4 +1,6 @@
 // Signed areas of a polygon's edges, row by row, in a lent accumulator.
+#![tactic(auto)]
+
 mod accum;
 pub mod edge;
 

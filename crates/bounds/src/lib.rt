@@ -1,4 +1,6 @@
 // The box of a polygon.
+#![tactic(auto)]
+
 ghost use Rattle.std.specs.Prelude.{◌≡◌, true, ◌+◌, ◌*◌, ◌≤◌, ◌<◌, nat_abs, length};
 ghost use Rattle.mathf.specs.Convert.{to_i32};
 ghost use Rattle.mathf.specs.Whole.{floor_of, ceil_of};
@@ -9,7 +11,7 @@ ghost use Rattle.bounds.specs.Plans.{Ranged, Near, plan_of};
 use geom::{IRect, Pt, nat_of};
 
 // The least and the greatest coordinates.
-#[derive(Drop)]
+#[derive(Clone, Copy)]
 pub struct Extent {
     pub minx: f32,
     pub miny: f32,
@@ -18,7 +20,7 @@ pub struct Extent {
 }
 
 // A box by its first column and row, and by its width and height.
-#[derive(Drop)]
+#[derive(Clone, Copy)]
 pub struct PolyBox {
     pub ox: i32,
     pub oy: i32,
@@ -27,7 +29,7 @@ pub struct PolyBox {
 }
 
 // What is painted: its box, and the scratch words that it needs. All zeros where nothing is painted.
-#[derive(Drop)]
+#[derive(Clone, Copy)]
 pub struct Plan {
     pub g: PolyBox,
     pub need: usize,

@@ -1,6 +1,8 @@
 // Stored answers of the oracle for the leaf functions and the canvas calls: reading a case, and whether the proved functions
 // answer as it says. A file holds words of 32 bits. The first is the number of cases; each case then has its function's number,
 // from 1, its inputs and the Rust's answer, in as many words as its area's cases have.
+#![tactic(auto)]
+
 mod answer;
 mod boxes;
 pub mod canvas;

@@ -1,4 +1,6 @@
 // A sheet of chosen items of another sheet, written into a lent buffer. They are chosen by their numbers, counted from 0.
+#![tactic(auto)]
+
 ghost use Rattle.std.specs.Prelude.{◌++◌, ◌≡◌, ◌+◌, ◌*◌, ◌≤◌, length, take};
 ghost use Rattle.encode.specs.Encode.{u16, pairs, joined, fit_number, Wrote};
 ghost use Rattle.encode.specs.Placed.{placed};

@@ -1,5 +1,7 @@
 // The state of the canvas along the items of a sheet: its sides, its pitch, the clip and the saved clips, before the first item
 // and after each. No pixel is asked for.
+#![tactic(auto)]
+
 ghost use Rattle.std.specs.Prelude.{◌≡◌, ◌<◌, pos};
 ghost use Rattle.sheet.specs.Bytes.{u16_at};
 ghost use Rattle.sheet.specs.Check.{width_of, height_of};

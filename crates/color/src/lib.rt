@@ -1,4 +1,6 @@
 // Colours with straight alpha, and pixels 0x00RRGGBB.
+#![tactic(auto)]
+
 ghost use Rattle.std.specs.Prelude.{◌≡◌};
 ghost use Rattle.color.specs.Colours.{rgb_of, rgba_of, hex_of, from_pix_of, pix_of};
 ghost use Rattle.color.specs.Colours.{fade_of, alpha_of, mix_of, lighten_of, darken_of, luma_of};
@@ -16,7 +18,7 @@ pub use crate::mixing::mix_pix;
 
 // A colour: red, green, blue and straight alpha.
 #[repr(C)]
-#[derive(Drop)]
+#[derive(Clone, Copy)]
 pub struct Color {
     pub r: u8,
     pub g: u8,
@@ -26,14 +28,14 @@ pub struct Color {
 
 // A pixel that a call returns, beside its number.
 #[repr(C)]
-#[derive(Drop)]
+#[derive(Clone, Copy)]
 pub struct Pixel {
     pub number: u32,
     pub value: u32,
 }
 
 // The new value of a pixel, and whether it differs from the old one.
-#[derive(Drop)]
+#[derive(Clone, Copy)]
 pub struct Inked {
     pub value: u32,
     pub altered: bool,
@@ -41,7 +43,7 @@ pub struct Inked {
 
 // The same, beside the number of a call.
 #[repr(C)]
-#[derive(Drop)]
+#[derive(Clone, Copy)]
 pub struct BlendAnswer {
     pub number: u32,
     pub value: u32,

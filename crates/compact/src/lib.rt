@@ -1,5 +1,7 @@
 // A sheet without its dead shapes, written into a lent buffer: shapes that have nothing in view under their clip are dropped.
 // Neither pixels nor scratch are lent.
+#![tactic(auto)]
+
 ghost use Rattle.std.specs.Prelude.{cond, ◌≡◌, ◌≤◌, length, take};
 ghost use Rattle.geom.specs.Box.{meet, empty};
 ghost use Rattle.sheet.specs.Check.{verdict, sheet_check};

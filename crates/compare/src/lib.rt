@@ -1,4 +1,6 @@
 // How two sheets differ: what a patch needs to know of them. Every function here takes any bytes at all.
+#![tactic(auto)]
+
 ghost use Rattle.std.specs.Prelude.{◌≡◌, ◌&&◌, ◌<◌};
 ghost use Rattle.geom.specs.Box as Box;
 ghost use Rattle.geom.specs.Box.{meet, no_box};
@@ -18,7 +20,7 @@ use items::reader::item_bytes;
 use sheet::u16_at;
 
 // What a patch is refused with, 10, 14 or 0, and the box that it redraws.
-#[derive(Drop)]
+#[derive(Clone, Copy)]
 pub struct Difference {
     pub number: u32,
     pub area: IRect,

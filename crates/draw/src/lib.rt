@@ -1,4 +1,6 @@
 // Drawing into lent pixels, in rows of a pitch: the definitions are in specs/, the laws of its loops in proofs/. No public call.
+#![tactic(auto)]
+
 ghost use Rattle.std.specs.Prelude.{◌≡◌, ◌≤◌, min, max};
 ghost use Rattle.draw.specs.Areas.{area_of, clip_to};
 ghost use Rattle.draw.specs.Frame.{pitch_number, frame_number};
@@ -6,7 +8,7 @@ ghost use Rattle.draw.specs.Frame.{pitch_number, frame_number};
 use geom::{IRect, nat_of};
 
 // A half-open box of pixels within the canvas: columns x0 up to x1, rows y0 up to y1.
-#[derive(Drop)]
+#[derive(Clone, Copy)]
 pub struct Area {
     pub x0: usize,
     pub y0: usize,

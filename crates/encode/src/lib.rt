@@ -1,11 +1,13 @@
 // Writing a sheet into a lent buffer: bytes and pairs of numbers put at a place, and what a call that writes a sheet returns.
+#![tactic(auto)]
+
 ghost use Rattle.std.specs.Prelude.{◌≡◌, ◌++◌, ◌+◌, ◌≤◌, length};
 ghost use Rattle.encode.specs.Encode.{u16};
 ghost use Rattle.encode.specs.Placed.{placed};
 
 // What a call that writes a sheet returns: its number, the item beside it, and how many bytes it wrote.
 #[repr(C)]
-#[derive(Drop)]
+#[derive(Clone, Copy)]
 pub struct Written {
     pub number: u32,
     pub item: u32,

@@ -1,5 +1,7 @@
 // Filled rectangles and circles, as gfx.rs fills them: the rims of each row by distance, its middle whole. What draws returns how
 // many pixels' values it altered.
+#![tactic(auto)]
+
 ghost use Rattle.std.specs.Prelude.{◌≡◌, Bool, ◌+◌, ◌≤◌, min, max, Float, length};
 ghost use Rattle.mathf.specs.F32.{f0};
 ghost use Rattle.mathf.specs.Convert.{to_i32};
@@ -23,14 +25,14 @@ use gfx::{Canvas, Counted};
 use paints::{Edge, Paint, along_line, centre, radius, side_cover};
 
 // Columns of a row: where its left rim ends, and where its right rim starts.
-#[derive(Drop)]
+#[derive(Clone, Copy)]
 struct Ends {
     le: usize,
     rs: usize,
 }
 
 // A rectangle with round corners, their edge, and the ends of its rows: beside a corner, and elsewhere.
-#[derive(Drop)]
+#[derive(Clone, Copy)]
 struct Round {
     rect: Rect,
     edge: Edge,
@@ -146,7 +148,7 @@ fn past(p: f32, c: f32, h: f32, r: f32) -> f32
 }
 
 // What the columns of a row share: how far it is past the sides, and its coverage beside the corners.
-#[derive(Drop)]
+#[derive(Clone, Copy)]
 struct Level {
     qy: f32,
     level: u32,

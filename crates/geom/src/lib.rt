@@ -1,4 +1,6 @@
 // Points, rectangles of the plane and boxes of pixels, all by value.
+#![tactic(auto)]
+
 ghost use Rattle.std.specs.Prelude.{◌≡◌, ◌&&◌};
 ghost use Rattle.geom.specs.Int.{up, max_z, min_z};
 ghost use Rattle.geom.specs.Box as Box;
@@ -8,7 +10,7 @@ ghost use Rattle.geom.specs.Plane.{no_area, outer_of, float_ok, pt_ok, rect_ok};
 
 // A point of the plane.
 #[repr(C)]
-#[derive(Drop)]
+#[derive(Clone, Copy)]
 pub struct Pt {
     pub x: f32,
     pub y: f32,
@@ -16,7 +18,7 @@ pub struct Pt {
 
 // A rectangle of the plane: its corner, its width and its height.
 #[repr(C)]
-#[derive(Drop)]
+#[derive(Clone, Copy)]
 pub struct Rect {
     pub x: f32,
     pub y: f32,
@@ -26,7 +28,7 @@ pub struct Rect {
 
 // A box of pixels, half-open: x1 and y1 are the first column and row past it.
 #[repr(C)]
-#[derive(Drop)]
+#[derive(Clone, Copy)]
 pub struct IRect {
     pub x0: i32,
     pub y0: i32,

@@ -1,5 +1,7 @@
 // The canvas: its state, the calls on its clips and pixels, and what its shapes share. A state goes in by value and comes back
 // beside a number; px is lent. A refused call returns the given state and alters nothing.
+#![tactic(auto)]
+
 mod checks;
 pub mod points;
 
@@ -24,7 +26,7 @@ use geom::{IRect, Rect, nat_of};
 // A canvas without its pixels: its sides, the words of a row of px, its clip, and up to 16 saved clips, of which `depth` are in
 // use. The pixel in column x and row y is the word y × pitch + x; words of a row past w are no pixels, and no call alters them.
 #[repr(C)]
-#[derive(Drop)]
+#[derive(Clone, Copy)]
 pub struct Canvas {
     pub w: i32,
     pub h: i32,
@@ -36,7 +38,7 @@ pub struct Canvas {
 
 // What a call on a canvas returns: its number, 0 where it is accepted, and the state.
 #[repr(C)]
-#[derive(Drop)]
+#[derive(Clone, Copy)]
 pub struct Done {
     pub number: u32,
     pub canvas: Canvas,
@@ -44,7 +46,7 @@ pub struct Done {
 
 // What a shape call returns: besides, how many of its steps altered a pixel's value.
 #[repr(C)]
-#[derive(Drop)]
+#[derive(Clone, Copy)]
 pub struct Counted {
     pub number: u32,
     pub canvas: Canvas,
@@ -53,7 +55,7 @@ pub struct Counted {
 
 // A box that a call returns, beside its number.
 #[repr(C)]
-#[derive(Drop)]
+#[derive(Clone, Copy)]
 pub struct Boxed {
     pub number: u32,
     pub area: IRect,

@@ -1,4 +1,6 @@
 // The items of a sheet as values. Reading is total: past the end a byte is 0.
+#![tactic(auto)]
+
 ghost use Rattle.std.specs.Prelude.{◌≡◌, ◌<◌, min};
 ghost use Rattle.sheet.specs.Check.{bytes_at};
 ghost use Rattle.items.specs.Items.{read_color, read_pt, read_rect, read_paint, read_fill, read_stroke, read_line, read_poly};
@@ -13,7 +15,7 @@ pub mod reaches;
 pub mod reader;
 
 // What an item says. The coordinates of a polygon and of a chain stay in its bytes: `count` points.
-#[derive(Drop)]
+#[derive(Clone, Copy)]
 pub enum Item {
     Push(Rect),
     Pop,
@@ -253,7 +255,7 @@ fn least(a: usize, b: usize) -> usize
 }
 
 // Where the bytes of an item lie.
-#[derive(Drop)]
+#[derive(Clone, Copy)]
 struct Part {
     from: usize,
     to: usize,

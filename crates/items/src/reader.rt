@@ -5,7 +5,7 @@ ghost use Rattle.sheet.specs.Check.{bytes_at};
 
 use crate::bytes_at;
 
-#[derive(Drop)]
+#[derive(Clone, Copy)]
 pub struct Reader<'a> {
     pub sheet: &'a [u8],
     pub next: u16,

@@ -10,7 +10,7 @@ use cases::word::{from, least, upto, word};
 // Every function of an area.
 pub const ALL: u32 = 0xffff_ffff;
 
-#[derive(Drop)]
+#[derive(Clone, Copy)]
 pub struct Tally {
     pub ran: u32,
     pub differ: u32,

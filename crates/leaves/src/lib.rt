@@ -1,6 +1,8 @@
 // The proved functions as the oracle calls them, for the comparison at scale and for speed: the leaf functions over whole slices,
 // stored cases, shapes. Whether the calls on pixels answer and leave what a stored case says, and counting the cases of every
 // area.
+#![tactic(auto)]
+
 mod clip_orders;
 mod counting;
 mod lent;

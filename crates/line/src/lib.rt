@@ -1,5 +1,7 @@
 // Lines with round ends, as gfx.rs draws them: each pixel by its distance to the segment. What draws returns how many of its
 // steps altered a pixel's value.
+#![tactic(auto)]
+
 ghost use Rattle.std.specs.Prelude.{◌≡◌, ◌/◌, ◌<◌, ◌≤◌, length};
 ghost use Rattle.geom.specs.declared.IRect.{IRect};
 ghost use Rattle.geom.specs.Plane.{float_ok};
@@ -20,7 +22,7 @@ use gfx::{Canvas, Counted, points_number};
 use paints::{Edge, centre};
 
 // What the pixels of a line share: its start, its direction, the square of its length and half its width.
-#[derive(Drop)]
+#[derive(Clone, Copy)]
 struct Segment {
     a: Pt,
     dx: f32,

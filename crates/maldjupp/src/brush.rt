@@ -9,7 +9,7 @@ use paints::Paint;
 
 // As in a sheet: a kind of 0 to 3, two colours and four numbers. What the kind does not use is not read.
 #[repr(C)]
-#[derive(Drop)]
+#[derive(Clone, Copy)]
 pub struct Brush {
     pub kind: u32,
     pub c0: Color,

@@ -1,5 +1,7 @@
 // The static library for C and Rust: sheet calls, clip orders, the blend of one pixel, canvas calls, and the panel's registers. A
 // slice passes as a pointer and a length, a struct by value.
+#![tactic(auto)]
+
 pub mod brush;
 pub mod canvas;
 pub mod registers;

@@ -1,4 +1,6 @@
 // What a sheet takes, told before it is painted: scratch words, saved clips, pixels. It is lent neither pixels nor scratch.
+#![tactic(auto)]
+
 ghost use Rattle.std.specs.Prelude.{◌≡◌, ◌≤◌};
 ghost use Rattle.items.specs.Items.{item_of};
 ghost use Rattle.items.specs.Format.{reach_of, need_of, format};
@@ -16,7 +18,7 @@ use redraw::Room;
 use sheet::{byte_at, check_sheet, u16_at};
 
 // What the items of a sheet take: scratch words, the most clips saved at once, and the pixels in reach and clip together.
-#[derive(Drop)]
+#[derive(Clone, Copy)]
 struct Tally {
     words: usize,
     most: usize,

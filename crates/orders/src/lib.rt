@@ -1,5 +1,7 @@
 // Every small clip order: the sheets of 0 to 6 items on a black canvas of 4 by 4, each item a push, a pop or a fill, by number.
 // An order is worked with as the kinds of its items.
+#![tactic(auto)]
+
 ghost use Rattle.std.specs.Prelude.{◌≡◌, map, ◌++◌, ◌+◌, ◌*◌, ◌≤◌, length, drop};
 ghost use Rattle.encode.specs.Encode.{u16, pairs, joined, fit_number, Wrote};
 ghost use Rattle.encode.specs.Placed.{placed};

@@ -1,4 +1,6 @@
 // Painting a sheet, and what patching shares with it.
+#![tactic(auto)]
+
 ghost use Rattle.std.specs.Prelude.{◌≡◌};
 ghost use Rattle.sheet.specs.Check.{bytes_at};
 ghost use Rattle.items.specs.Items.{item_of};

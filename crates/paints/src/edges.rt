@@ -7,7 +7,7 @@ use crate::{both_positive, cov8};
 
 // An edge at the distance r. From the squared distance `far` on it covers nothing, and up to `near` all; a NaN where none was
 // found.
-#[derive(Drop)]
+#[derive(Clone, Copy)]
 pub struct Edge {
     pub r: f32,
     pub far: f32,

@@ -1,4 +1,6 @@
 // Paints, coverage and distances: one f32 operation after another, in the order of gfx.rs.
+#![tactic(auto)]
+
 pub mod edges;
 
 ghost use Rattle.std.specs.Prelude.{◌≡◌, ◌&&◌};
@@ -12,7 +14,7 @@ use color::Color;
 use geom::{Pt, Rect, float_ok, floats_ok};
 
 // What a shape is filled with.
-#[derive(Drop)]
+#[derive(Clone, Copy)]
 pub enum Paint {
     Solid(Color),
     VGrad {
@@ -163,7 +165,7 @@ pub fn rrect_sd(px: f32, py: f32, cx: f32, cy: f32, hw: f32, hh: f32, r: f32) ->
 }
 
 // A rectangle with rounded corners: its middle, its half sides, its radius and its edges.
-#[derive(Drop)]
+#[derive(Clone, Copy)]
 pub struct Rounded {
     pub cx: f32,
     pub cy: f32,

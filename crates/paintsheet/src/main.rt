@@ -1,4 +1,6 @@
 // Reads a sheet from standard input, and prints the pixels that it paints, or the number and the item that it is refused with.
+#![tactic(auto)]
+
 ghost use Rattle.std.specs.Prelude.{◌≡◌, length};
 
 use libc::{STDIN_FILENO, STDOUT_FILENO};

@@ -1,5 +1,7 @@
 // The registers through which a panel takes the pixels of a box. A panel goes in by value and comes back beside a number; px is
 // lent, and no step alters it. A refused step returns the panel as given.
+#![tactic(auto)]
+
 ghost use Rattle.std.specs.Prelude.{◌≡◌, ◌-◌, ◌<◌, length};
 ghost use Rattle.geom.specs.Refusals.{unless, and_then};
 ghost use Rattle.panel.specs.Registers.{flags_of, regs_of, fresh_panel, place_in, transfer_ok, panel_ok, panel_number, command_ok};
@@ -14,7 +16,7 @@ use sheet::u16_at;
 // Eight bytes: 0 command, 1 flags, 2-3 column, 4-5 row, 6-7 pixels left in this row, the lower byte first; and the box last
 // loaded.
 #[repr(C)]
-#[derive(Drop)]
+#[derive(Clone, Copy)]
 pub struct Panel {
     pub regs: [u8; 8],
     pub held: IRect,
@@ -22,7 +24,7 @@ pub struct Panel {
 
 // What a write returns.
 #[repr(C)]
-#[derive(Drop)]
+#[derive(Clone, Copy)]
 pub struct Stepped {
     pub number: u32,
     pub panel: Panel,
@@ -30,7 +32,7 @@ pub struct Stepped {
 
 // What a take returns: the pixel besides.
 #[repr(C)]
-#[derive(Drop)]
+#[derive(Clone, Copy)]
 pub struct Taken {
     pub number: u32,
     pub value: u32,

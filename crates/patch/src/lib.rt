@@ -1,4 +1,6 @@
 // Patching: the canvas of one sheet altered to that of another, in the box where they differ.
+#![tactic(auto)]
+
 ghost use Rattle.items.specs.Format.{format, zero_word};
 ghost use Rattle.redraw.specs.Calls.{Patched};
 ghost use Rattle.patch.specs.Patch.{BothRead};

@@ -15,7 +15,7 @@ use geom::IRect;
 use paints::Paint;
 
 // What a polygon on a lent scratch returns: its number, and how many pixels' values it altered.
-#[derive(Drop)]
+#[derive(Clone, Copy)]
 pub(crate) struct Lent {
     pub number: u32,
     pub steps: u32,

@@ -1,4 +1,6 @@
 // Polygons: signed areas, edge by edge, in a lent accumulator, and from it the pixels.
+#![tactic(auto)]
+
 mod fill;
 mod outline;
 mod rows;

@@ -1,10 +1,12 @@
 // The types that the definitions of specs/ speak of. There is no code here: the definitions and theorems are over any kind of
 // shape and any reading of a sheet.
+#![tactic(auto)]
+
 use geom::IRect;
 
 // What a sheet call returns: number, item and box.
 #[repr(C)]
-#[derive(Drop)]
+#[derive(Clone, Copy)]
 pub struct Answer {
     pub number: u32,
     pub item: u32,
@@ -13,7 +15,7 @@ pub struct Answer {
 
 // The same, with the count of shape steps that altered a pixel's value, and of pixels whose value the ground altered.
 #[repr(C)]
-#[derive(Drop)]
+#[derive(Clone, Copy)]
 pub struct Reply {
     pub answer: Answer,
     pub steps: u64,
@@ -23,7 +25,7 @@ pub struct Reply {
 // What a sheet takes: the scratch words that it needs, the most clips that it has saved at once, and the pixels in reach and clip
 // together, summed over its shapes; refused, number and item, and three zeros.
 #[repr(C)]
-#[derive(Drop)]
+#[derive(Clone, Copy)]
 pub struct Room {
     pub number: u32,
     pub item: u32,

@@ -1,4 +1,6 @@
 // Drawing the items of a sheet on a canvas, one after the other.
+#![tactic(auto)]
+
 ghost use Rattle.std.specs.Prelude.{◌≡◌, length};
 ghost use Rattle.draw.specs.Draw.{differ};
 ghost use Rattle.sheet.specs.Check.{count_of};

@@ -1,4 +1,6 @@
 // A painting and a list of patches, run on lent memory: demand 3 as the contract of a function.
+#![tactic(auto)]
+
 ghost use Rattle.std.specs.Prelude.{◌≡◌, ◌+◌, ◌-◌, ◌≤◌, min, length, take, drop};
 ghost use Rattle.items.specs.Format.{format, zero_word};
 ghost use Rattle.replay.specs.Ran.{part, cut, next, run, replayed, standing, Ran};
@@ -9,7 +11,7 @@ use redraw::Reply;
 
 // What the last call returned, and where the sheet accepted last lies; after a refused painting there is none, and both bounds
 // are 0.
-#[derive(Drop)]
+#[derive(Clone, Copy)]
 pub struct Replayed {
     pub reply: Reply,
     pub from: usize,

@@ -1,5 +1,7 @@
 // Replays the stored answers of the unchanged Rust: how many cases of each function of an area ran, and how many differ. The
 // arguments name the files of the areas, in the areas' order; a function goes by its number.
+#![tactic(auto)]
+
 ghost use Rattle.std.specs.Prelude.{◌≡◌, length};
 ghost use Rattle.io.specs.Counts.{IsPrefixLen};
 

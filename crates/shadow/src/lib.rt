@@ -1,4 +1,6 @@
 // The soft shadow of a rounded rectangle. What draws returns how many pixels' values it altered.
+#![tactic(auto)]
+
 ghost use Rattle.std.specs.Prelude.{◌≡◌, ◌+◌, ◌<◌, ◌≤◌, length};
 ghost use Rattle.mathf.specs.F32.{◌-ᶠ◌, ◌/ᶠ◌, ◌*ᶠ◌, f2, f96};
 ghost use Rattle.mathf.specs.Root.{sqrt_of};
@@ -59,7 +61,7 @@ fn alpha_of(lut: &[u32; 97], a: u8, blur: f32, scale: f32, sd: f32) -> u32
 
 // What every row of a shadow asks: its rectangle, the blur, the levels to a pixel, the squared distance of a corner's centre
 // where it has faded, the colour.
-#[derive(Drop)]
+#[derive(Clone, Copy)]
 struct Shade {
     s: Rounded,
     blur: f32,

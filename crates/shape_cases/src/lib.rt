@@ -2,6 +2,8 @@
 // and two colours of a paint, a radius, a width or blur, the count of coordinates, 12 of them, the count, base and step of px,
 // the words of scratch that are left +0, what is left in px (a pitch, so many columns, up to 64 pixels), the number, and the
 // steps that altered a pixel's value. Coordinates past the 12 are the words that follow.
+#![tactic(auto)]
+
 ghost use Rattle.std.specs.Prelude.{◌≡◌, length};
 
 use cases::canvas::{framed, none_saved, same_state};
@@ -31,7 +33,7 @@ fn place(case: &[u8]) -> Rect {
 // What a shape call tells: its number, or 99 where it does not leave the state as it was, and its steps that altered a pixel's
 // value.
 #[repr(C)]
-#[derive(Drop)]
+#[derive(Clone, Copy)]
 pub struct Told {
     pub number: u32,
     pub steps: u64,

@@ -7,7 +7,7 @@ use crate::bytes::{all_zero, byte_at, u16_at};
 use crate::kinds::{depth_after, item_number};
 
 // The number that a sheet is refused with, and the item, counted from 1; 0 where there is none.
-#[derive(Drop)]
+#[derive(Clone, Copy)]
 pub struct Verdict {
     pub number: u32,
     pub item: u32,

@@ -8,7 +8,7 @@ use geom::float_ok;
 
 // Where the fields of an item, or of a paint, lie, counted from its first byte: its length; the bytes that it leaves zero, from
 // `zero` on; its floats, from `float` on; its paint, 0 where it has none.
-#[derive(Drop)]
+#[derive(Clone, Copy)]
 struct Layout {
     length: u32,
     zero: u8,

@@ -1,4 +1,6 @@
 // The sheet: numbers in its bytes, and its check.
+#![tactic(auto)]
+
 pub mod bytes;
 pub mod check;
 mod kinds;

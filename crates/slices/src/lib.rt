@@ -1,4 +1,6 @@
 // The leaf functions over whole slices.
+#![tactic(auto)]
+
 ghost use Rattle.std.specs.Prelude.{◌≡◌, map};
 ghost use Rattle.mathf.specs.Convert.{to_u8, to_u32, to_usize, to_i32};
 ghost use Rattle.mathf.specs.Root.{sqrt_of};

@@ -1,4 +1,6 @@
 // The outline of a rounded rectangle, and of a circle. What draws returns how many pixels' values it altered.
+#![tactic(auto)]
+
 ghost use Rattle.std.specs.Prelude.{◌≡◌, true, false, ◌+◌, ◌<◌, ◌≤◌, T, Float, length};
 ghost use Rattle.mathf.specs.F32.{◌+ᶠ◌, ◌-ᶠ◌, ◌*ᶠ◌, ◌≤ᶠ◌, f0, f1};
 ghost use Rattle.mathf.specs.Root.{sqrt_of};
@@ -57,7 +59,7 @@ fn corner_row(s: Rounded, yc: f32) -> bool
 }
 
 // Columns: the first, and the first past them.
-#[derive(Drop)]
+#[derive(Clone, Copy)]
 struct Columns {
     from: usize,
     upto: usize,
@@ -117,7 +119,7 @@ fn level_part(s: Rounded, x0: usize, x1: usize) -> Columns
 
 // An outline as its rows ask for it: the gaps of rows beside the corners and of others, the columns beside no corner, and the
 // squared distances of a corner's centre beyond which it covers nothing.
-#[derive(Drop)]
+#[derive(Clone, Copy)]
 struct Frame {
     s: Rounded,
     width: f32,
@@ -159,7 +161,7 @@ fn blank_upto(r: f32, width: f32) -> f32
 }
 
 // What the columns of a row share: how far it is past the sides, its coverage beside the corners, and where a corner's is known.
-#[derive(Drop)]
+#[derive(Clone, Copy)]
 struct Level {
     qy: f32,
     level: u32,

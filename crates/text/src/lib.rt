@@ -1,4 +1,6 @@
 // The text of a painted sheet: its pixels row by row, or the number and the item that painting refuses it with.
+#![tactic(auto)]
+
 mod picture;
 
 ghost use Rattle.std.specs.Prelude.{◌≡◌, ◌+◌, ◌*◌, ◌≤◌, ◌<◌, length};
