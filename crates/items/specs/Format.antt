@@ -151,7 +151,7 @@ same_item (shape a) (shape b) = same_bytes a b
 -- ---- the sheet
 
 abbrev pub sheet_of : List ℕ → Sheet (List ℕ)
-sheet_of s = record { w = width_of s; h = height_of s; ground = pix_of (ground_of s); items = items_from s (count_of s) 0 }
+sheet_of s = record { w = width_of s; h = height_of s; ground_pixel = pix_of (ground_of s); items = items_from s (count_of s) 0 }
 
 -- refused by its number and item, or read
 unfoldable pub reading : List ℕ → Reading (List ℕ)

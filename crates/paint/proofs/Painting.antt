@@ -92,24 +92,24 @@ module _ (s : List ℕ) (pitch : ℕ) (e : sheet_check s ≡ verdict 0 0) (area 
   unfolding state_in
   opened = record { valid = (stands-first s pitch area e rows ok).sound.valid; frame = l.frame }
 
-  ground : List ℕ
-  ground = ground_in pitch area (pix_of (ground_of s)) px
+  grounded_px : List ℕ
+  grounded_px = ground_in pitch area (pix_of (ground_of s)) px
 
-  grounded : grounded_in s pitch area px ≡ ground
-  unfolding grounded_in left state_in ground
+  grounded : grounded_in s pitch area px ≡ grounded_px
+  unfolding grounded_in left state_in grounded_px
   grounded = rw (open_number opened) (ground_is pitch area (pix_of (ground_of s)) px)
 
-  long : length ground ≡ pitch * height_of s
-  unfolding ground
+  long : length grounded_px ≡ pitch * height_of s
+  unfolding grounded_px
   long = length_ground pitch area (pix_of (ground_of s)) px ∙ l.frame.long
 
   -- what was drawn is what an outcome that draws the sheet in the area asks
   pub drawn_does : {o : Outcome (List ℕ)} {r : Reply} {px' : List ℕ} {scratch' : List Float} → o ≡ draws (sheet_of s) area
       → DrewSheet s pitch area px scratch r px' scratch' → Does zero_word format pitch o px scratch r px' scratch'
-  unfolding answer steps_of grounds_of pixels redraw.cleared cleared ground
+  unfolding answer steps_of grounds_of pixels redraw.cleared cleared grounded_px
   drawn_does {o} {r} {px'} {scratch'} is d =
       does_drawn zero_word format pitch px scratch o (draws (sheet_of s) area) r px' scratch' is d.answers
-      (d.leaves.counts ∙ rw grounded (items_steps s pitch e rows area ok ground scratch long l.enough))
+      (d.leaves.counts ∙ rw grounded (items_steps s pitch e rows area ok grounded_px scratch long l.enough))
       (d.grounds ∙ ap (differ px) grounded)
-      (d.leaves.paints ∙ rw grounded (items_px s pitch e rows area ok ground scratch long l.enough))
-      (d.leaves.clears ∙ rw grounded (items_scratch s pitch e rows area ok ground scratch long l.enough))
+      (d.leaves.paints ∙ rw grounded (items_px s pitch e rows area ok grounded_px scratch long l.enough))
+      (d.leaves.clears ∙ rw grounded (items_scratch s pitch e rows area ok grounded_px scratch long l.enough))

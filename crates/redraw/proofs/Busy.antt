@@ -26,16 +26,16 @@ use Rattle.redraw.proofs.Layouts.{SameRows, same_steps}
 
 -- px with the canvas set to the ground has the words of a canvas of the ground alone
 grounded : {Shape : Type 0} (s : Sheet Shape) (pitch : ℕ) (px : List ℕ) → s.w ≤ pitch → length px ≡ pitch * s.h
-    → SameRows pitch s.w s.h (ground_in pitch (canvas s) s.ground px) (replicate (s.w * s.h) s.ground)
+    → SameRows pitch s.w s.h (ground_in pitch (canvas s) s.ground_pixel px) (replicate (s.w * s.h) s.ground_pixel)
 unfolding canvas
 grounded s pitch px room n =
     record {
-      long = length_ground pitch (canvas s) s.ground px ∙ n ∙ mul_comm pitch s.h;
-      short = length-replicate (s.w * s.h) s.ground ∙ mul_comm s.w s.h;
+      long = length_ground pitch (canvas s) s.ground_pixel px ∙ n ∙ mul_comm pitch s.h;
+      short = length-replicate (s.w * s.h) s.ground_pixel ∙ mul_comm s.w s.h;
       words = λ x y k l. let m : x < pitch = omega arith in
           let here : inside (canvas s) (pos x) (pos y) ≡ true = inside_of _ (pos x) (pos y) (omega order_z) in
-          word_ground pitch (canvas s) s.ground px (y * pitch + x) (rw (n ∙ mul_comm pitch s.h) (digits_lt l m))
-          ∙ rw (digits_mod y m, digits_div y m, here) (sym (get_or-replicate (s.w * s.h) (y * s.w + x) s.ground 0 (rw (mul_comm s.w s.h) (digits_lt l k))));
+          word_ground pitch (canvas s) s.ground_pixel px (y * pitch + x) (rw (n ∙ mul_comm pitch s.h) (digits_lt l m))
+          ∙ rw (digits_mod y m, digits_div y m, here) (sym (get_or-replicate (s.w * s.h) (y * s.w + x) s.ground_pixel 0 (rw (mul_comm s.w s.h) (digits_lt l k))));
     }
 
 pub fresh_steps_lem : (F : Format) (s : Sheet F.kind.Shape) (pitch : ℕ) (px : List ℕ) → s.w ≤ pitch → length px ≡ pitch * s.h
@@ -64,7 +64,7 @@ pub quiet : (F : Format) → Lawful F → (pitch : ℕ) (o : Outcome F.kind.Shap
 unfolding steps_of grounds_of pixels
 quiet F law pitch (refuses n k) px e g = refl
 quiet F law pitch (draws s box) px e g =
-    items_quiet F law pitch s.items (only box) _ e ∙ differ_none px _ (length_ground pitch box s.ground px) g
+    items_quiet F law pitch s.items (only box) _ e ∙ differ_none px _ (length_ground pitch box s.ground_pixel px) g
 
 pub busy : {Word : Type 0} (zero_word : Word) (F : Format) → Lawful F → Busy zero_word F
 busy zero_word F law = record {

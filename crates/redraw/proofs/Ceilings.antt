@@ -130,11 +130,11 @@ module _ (pitch n pixels : ℕ) (box : IRect) (counted : count_to (λ i. inside 
         let rest = items_most r c d (shape_on K pitch c.clip a px) (length_shape K pitch c.clip a px ∙ e) u in
         omega (arith, here, rest, add-mul (parts_meeting box d.clip (K.parts a)) (shapes_meeting K box r d) pixels)
 
-  ground_most : (ground : ℕ) (px : List ℕ) → length px ≡ n → differ px (ground_in pitch box ground px) ≤ pixels
+  ground_most : (ground_pixel : ℕ) (px : List ℕ) → length px ≡ n → differ px (ground_in pitch box ground_pixel px) ≤ pixels
   unfolding ground_in
-  ground_most ground px e =
+  ground_most ground_pixel px e =
       let inBox : ℕ → Bool = λ i. inside box (pos (i % pitch)) (pos (i / pitch)) in
-      let most = onto_most inBox (λ i p. ground) inBox px (λ k q. q) in
+      let most = onto_most inBox (λ i p. ground_pixel) inBox px (λ k q. q) in
       omega (arith, rw e at most, counted)
 
 -- ---- the box of a patch: four zeros, or within the canvas
@@ -169,7 +169,7 @@ module _ (K : Kind) (pitch : ℕ) (s : Sheet K.Shape) (box : IRect) (fits : BoxF
   unfolding steps_of
   steps_most h =
       items_most pitch (pitch * s.h) _ box (count_box pitch s.w s.h box room fits) K s.items (only box) (only (canvas s)) _
-      (length_ground pitch box s.ground px ∙ long)
+      (length_ground pitch box s.ground_pixel px ∙ long)
       (record {
         out = λ x y o. record { clips = o; saves = none };
         like = λ x y o. record { clips = o ∙ sym (h.holds (pos x) (pos y) o); saves = Drawn.none };
@@ -177,7 +177,7 @@ module _ (K : Kind) (pitch : ℕ) (s : Sheet K.Shape) (box : IRect) (fits : BoxF
 
   grounds_most : grounds_of K pitch (draws s box) px ≤ box_area box
   unfolding grounds_of
-  grounds_most = ground_most pitch (pitch * s.h) _ box (count_box pitch s.w s.h box room fits) s.ground px long
+  grounds_most = ground_most pitch (pitch * s.h) _ box (count_box pitch s.w s.h box room fits) s.ground_pixel px long
 
 -- ---- an empty box has no pixel
 
@@ -225,6 +225,6 @@ module _ {Word : Type 0} (zero_word : Word) (F : Format) where
       let most = bounded old new pitch px scratch r px' scratch' did in
       record {
         shapes = most.0;
-        ground = most.1;
+        grounds = most.1;
         none = λ e. let z = empty_area r.answer.area e in (least (rw (z, mul-zero) at most).0, least (rw z at most).1);
       }

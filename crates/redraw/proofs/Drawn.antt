@@ -60,11 +60,11 @@ module _ (K : Kind) (x y : ℕ) where
       let m : Bool → ℕ = λ i. inked K (i && inside (K.reach b) (pos x) (pos y)) b x y p in
       same_clips r c d (m (inside c.clip (pos x) (pos y))) a ∙ ap (λ (i : Bool). pixel K (steps r d) x y (m i)) a.clips
 
-  pub first_clip : (items : List (Item K.Shape)) (c d : IRect) (ground : ℕ)
+  pub first_clip : (items : List (Item K.Shape)) (c d : IRect) (ground_pixel : ℕ)
       → inside c (pos x) (pos y) ≡ true → inside d (pos x) (pos y) ≡ true
-      → pixel_of K items c ground x y ≡ pixel_of K items d ground x y
+      → pixel_of K items c ground_pixel x y ≡ pixel_of K items d ground_pixel x y
   unfolding pixel_of
-  first_clip items c d ground p q = same_clips items (only c) (only d) ground (record { clips = cc; saves = none })
+  first_clip items c d ground_pixel p q = same_clips items (only c) (only d) ground_pixel (record { clips = cc; saves = none })
 
 -- ---- a pixel that no differing shape reaches
 
@@ -171,50 +171,50 @@ module _ (K : Kind) (pitch : ℕ) where
   holds_word box i = inside box (pos (i % pitch)) (pos (i / pitch))
 
   -- the words of px that lie in `frame` are those of the items drawn from nothing with `frame` as first clip
-  pub record Shows (frame : IRect) (ground : ℕ) (items : List (Item K.Shape)) (px : List ℕ) : Type 0 where
-    pub shows : (i : ℕ) → i < length px → holds_word frame i ≡ true → get_or px i 0 ≡ pixel_of K items frame ground (i % pitch) (i / pitch)
+  pub record Shows (frame : IRect) (ground_pixel : ℕ) (items : List (Item K.Shape)) (px : List ℕ) : Type 0 where
+    pub shows : (i : ℕ) → i < length px → holds_word frame i ≡ true → get_or px i 0 ≡ pixel_of K items frame ground_pixel (i % pitch) (i / pitch)
 
-  pub length_drawn : (box : IRect) (ground : ℕ) (items : List (Item K.Shape)) (px : List ℕ)
-      → length (painted_in K pitch box ground items px) ≡ length px
+  pub length_drawn : (box : IRect) (ground_pixel : ℕ) (items : List (Item K.Shape)) (px : List ℕ)
+      → length (painted_in K pitch box ground_pixel items px) ≡ length px
   unfolding painted_in
-  length_drawn box ground items px = length_each _ 0 px
+  length_drawn box ground_pixel items px = length_each _ 0 px
 
-  pub word_drawn : (box : IRect) (ground : ℕ) (items : List (Item K.Shape)) (px : List ℕ) (i : ℕ) → i < length px
-      → get_or (painted_in K pitch box ground items px) i 0 ≡ word_in K (holds_word box i) items box ground (i % pitch) (i / pitch) (get_or px i 0)
+  pub word_drawn : (box : IRect) (ground_pixel : ℕ) (items : List (Item K.Shape)) (px : List ℕ) (i : ℕ) → i < length px
+      → get_or (painted_in K pitch box ground_pixel items px) i 0 ≡ word_in K (holds_word box i) items box ground_pixel (i % pitch) (i / pitch) (get_or px i 0)
   unfolding painted_in
-  word_drawn box ground items px i h = get_d_each _ 0 px i h ∙ rw zero-add
+  word_drawn box ground_pixel items px i h = get_d_each _ 0 px i h ∙ rw zero-add
 
   -- a word outside the box is as it was
-  pub outside_kept : (box : IRect) (ground : ℕ) (items : List (Item K.Shape)) (px : List ℕ) (i : ℕ) → i < length px
-      → holds_word box i ≡ false → get_or (painted_in K pitch box ground items px) i 0 ≡ get_or px i 0
+  pub outside_kept : (box : IRect) (ground_pixel : ℕ) (items : List (Item K.Shape)) (px : List ℕ) (i : ℕ) → i < length px
+      → holds_word box i ≡ false → get_or (painted_in K pitch box ground_pixel items px) i 0 ≡ get_or px i 0
   unfolding word_in
-  outside_kept box ground items px i h o = word_drawn box ground items px i h ∙ rw o
+  outside_kept box ground_pixel items px i h o = word_drawn box ground_pixel items px i h ∙ rw o
 
-  pub inside_drawn : (box : IRect) (ground : ℕ) (items : List (Item K.Shape)) (px : List ℕ) (i : ℕ) → i < length px
-      → holds_word box i ≡ true → get_or (painted_in K pitch box ground items px) i 0 ≡ pixel_of K items box ground (i % pitch) (i / pitch)
+  pub inside_drawn : (box : IRect) (ground_pixel : ℕ) (items : List (Item K.Shape)) (px : List ℕ) (i : ℕ) → i < length px
+      → holds_word box i ≡ true → get_or (painted_in K pitch box ground_pixel items px) i 0 ≡ pixel_of K items box ground_pixel (i % pitch) (i / pitch)
   unfolding word_in
-  inside_drawn box ground items px i h o = word_drawn box ground items px i h ∙ rw o
+  inside_drawn box ground_pixel items px i h o = word_drawn box ground_pixel items px i h ∙ rw o
 
   -- drawing in the frame itself shows the items, whatever was there
-  pub painted : (frame : IRect) (ground : ℕ) (items : List (Item K.Shape)) (px : List ℕ)
-      → Shows frame ground items (painted_in K pitch frame ground items px)
-  painted frame ground items px =
-      record { shows = λ i h f. inside_drawn frame ground items px i (rw length_drawn at h) f }
+  pub painted : (frame : IRect) (ground_pixel : ℕ) (items : List (Item K.Shape)) (px : List ℕ)
+      → Shows frame ground_pixel items (painted_in K pitch frame ground_pixel items px)
+  painted frame ground_pixel items px =
+      record { shows = λ i h f. inside_drawn frame ground_pixel items px i (rw length_drawn at h) f }
 
   -- drawing in a box that holds what differing shapes have in the frame
-  pub redrawn : (frame box : IRect) (ground : ℕ) (r s : List (Item K.Shape)) (l : List (Pair K.Shape)) (px : List ℕ)
+  pub redrawn : (frame box : IRect) (ground_pixel : ℕ) (r s : List (Item K.Shape)) (l : List (Pair K.Shape)) (px : List ℕ)
       → Edited r s (only frame) l → HoldsEach box frame (reaches K.reach l)
-      → Shows frame ground r px → Shows frame ground s (painted_in K pitch box ground s px)
-  redrawn frame box ground r s l px e h old = record { shows = λ i k f. go i (rw length_drawn at k) f (holds_word box i) refl }
+      → Shows frame ground_pixel r px → Shows frame ground_pixel s (painted_in K pitch box ground_pixel s px)
+  redrawn frame box ground_pixel r s l px e h old = record { shows = λ i k f. go i (rw length_drawn at k) f (holds_word box i) refl }
     where
       out : (i : ℕ) → holds_word frame i ≡ true → holds_word box i ≡ false → in_any (reaches K.reach l) (pos (i % pitch)) (pos (i / pitch)) ≡ false
       out i f b =
           same_test _ false (λ a. let z = held_any box frame (reaches K.reach l) h (pos (i % pitch)) (pos (i / pitch)) f a in cc) (λ z. cc)
 
       go : (i : ℕ) → i < length px → holds_word frame i ≡ true → (t : Bool) → holds_word box i ≡ t
-          → get_or (painted_in K pitch box ground s px) i 0 ≡ pixel_of K s frame ground (i % pitch) (i / pitch)
+          → get_or (painted_in K pitch box ground_pixel s px) i 0 ≡ pixel_of K s frame ground_pixel (i % pitch) (i / pitch)
       go i k f true b =
-          inside_drawn box ground s px i k b ∙ first_clip K (i % pitch) (i / pitch) s box frame ground b f
+          inside_drawn box ground_pixel s px i k b ∙ first_clip K (i % pitch) (i / pitch) s box frame ground_pixel b f
       go i k f false b =
-          outside_kept box ground s px i k b ∙ old.shows i k f
-          ∙ unfold pixel_of in untouched K (i % pitch) (i / pitch) e (out i f b) ground
+          outside_kept box ground_pixel s px i k b ∙ old.shows i k f
+          ∙ unfold pixel_of in untouched K (i % pitch) (i / pitch) e (out i f b) ground_pixel

@@ -71,7 +71,7 @@ drawn_margin : (K : Kind) (pitch : ℕ) (s : Sheet K.Shape) (box : IRect) (px : 
     → (i : ℕ) → i < length px → s.w ≤ i % pitch → get_or (pixels K pitch (draws s box) px) i 0 ≡ get_or px i 0
 drawn_margin K pitch s box px o i h k =
     ap (λ (qx : List ℕ). get_or qx i 0) (pixels_drawn K pitch s box px)
-    ∙ outside_kept K pitch box s.ground s.items px i h (o (i % pitch) (i / pitch) (past_width s (i % pitch) (i / pitch) k))
+    ∙ outside_kept K pitch box s.ground_pixel s.items px i h (o (i % pitch) (i / pitch) (past_width s (i % pitch) (i / pitch) k))
 
 module _ {Word : Type 0} (zero_word : Word) (F : Format) (s : Sheet F.kind.Shape) (pitch : ℕ) (px : List ℕ) (scratch : List Word) (a : Reply) (px' : List ℕ) (scratch' : List Word) where
   abbrev Margin : Type 0

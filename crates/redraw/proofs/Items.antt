@@ -49,13 +49,13 @@ module _ (K : Kind) (x y : ℕ) where
 
 -- ---- a box set to the ground
 
-module _ (pitch : ℕ) (box : IRect) (ground : ℕ) (px : List ℕ) where
-  pub length_ground : length (ground_in pitch box ground px) ≡ length px
+module _ (pitch : ℕ) (box : IRect) (ground_pixel : ℕ) (px : List ℕ) where
+  pub length_ground : length (ground_in pitch box ground_pixel px) ≡ length px
   unfolding ground_in
   length_ground = length_each _ 0 px
 
   pub word_ground : (i : ℕ) → i < length px
-      → get_or (ground_in pitch box ground px) i 0 ≡ cond (inside box (pos (i % pitch)) (pos (i / pitch))) ground (get_or px i 0)
+      → get_or (ground_in pitch box ground_pixel px) i 0 ≡ cond (inside box (pos (i % pitch)) (pos (i / pitch))) ground_pixel (get_or px i 0)
   unfolding ground_in
   word_ground i h = get_d_each _ 0 px i h ∙ rw zero-add
 

@@ -40,22 +40,22 @@ module _ (K : Kind) (s : Sheet K.Shape) where
   unfolding fresh
   length_fresh = length_items K s.w s.items (only (canvas s)) _ ∙ length-replicate _ _
 
-  pub word_fresh : (i : ℕ) → i < s.w * s.h → get_or (fresh K s) i 0 ≡ pixel_of K s.items (canvas s) s.ground (i % s.w) (i / s.w)
+  pub word_fresh : (i : ℕ) → i < s.w * s.h → get_or (fresh K s) i 0 ≡ pixel_of K s.items (canvas s) s.ground_pixel (i % s.w) (i / s.w)
   unfolding fresh pixel_of
   word_fresh i h =
-      word_items K s.w s.items (only (canvas s)) (replicate (s.w * s.h) s.ground) i (rw length-replicate h)
-      ∙ rw (get_or-replicate (s.w * s.h) i s.ground 0 h)
+      word_items K s.w s.items (only (canvas s)) (replicate (s.w * s.h) s.ground_pixel) i (rw length-replicate h)
+      ∙ rw (get_or-replicate (s.w * s.h) i s.ground_pixel 0 h)
 
   -- the word of the fresh painting at a place of the canvas
   pub fresh_at : (x y : ℕ) → inside (canvas s) (pos x) (pos y) ≡ true
-      → get_or (fresh K s) (y * s.w + x) 0 ≡ pixel_of K s.items (canvas s) s.ground x y
+      → get_or (fresh K s) (y * s.w + x) 0 ≡ pixel_of K s.items (canvas s) s.ground_pixel x y
   unfolding canvas
   fresh_at x y e =
       let i = in_of _ (pos x) (pos y) e in
       let hx : x < s.w = omega (order_z, i.right) in
       let hy : y < s.h = omega (order_z, i.bottom) in
       let k : y * s.w + x < s.w * s.h = rw (mul_comm s.w s.h) (digits_lt hy hx) in
-      word_fresh (y * s.w + x) k ∙ ap₂ (λ (a b : ℕ). pixel_of K s.items (canvas s) s.ground a b) (digits_mod y hx) (digits_div y hx)
+      word_fresh (y * s.w + x) k ∙ ap₂ (λ (a b : ℕ). pixel_of K s.items (canvas s) s.ground_pixel a b) (digits_mod y hx) (digits_div y hx)
 
 -- ---- what an accepted outcome says
 
@@ -155,15 +155,15 @@ drawn_one p q = cc
 
 same_w : {Shape : Type 0} (a b : Sheet Shape) → same_header a b ≡ true → a.w ≡ b.w
 unfolding same_header
-same_w a b e = eqb-true a.w b.w (and_left (eqb a.w b.w) (eqb a.h b.h) (and_left _ (eqb a.ground b.ground) e))
+same_w a b e = eqb-true a.w b.w (and_left (eqb a.w b.w) (eqb a.h b.h) (and_left _ (eqb a.ground_pixel b.ground_pixel) e))
 
 same_h : {Shape : Type 0} (a b : Sheet Shape) → same_header a b ≡ true → a.h ≡ b.h
 unfolding same_header
-same_h a b e = eqb-true a.h b.h (and_right (eqb a.w b.w) (eqb a.h b.h) (and_left _ (eqb a.ground b.ground) e))
+same_h a b e = eqb-true a.h b.h (and_right (eqb a.w b.w) (eqb a.h b.h) (and_left _ (eqb a.ground_pixel b.ground_pixel) e))
 
-same_ground : {Shape : Type 0} (a b : Sheet Shape) → same_header a b ≡ true → a.ground ≡ b.ground
+same_ground : {Shape : Type 0} (a b : Sheet Shape) → same_header a b ≡ true → a.ground_pixel ≡ b.ground_pixel
 unfolding same_header
-same_ground a b e = eqb-true a.ground b.ground (and_right (eqb a.w b.w && eqb a.h b.h) (eqb a.ground b.ground) e)
+same_ground a b e = eqb-true a.ground_pixel b.ground_pixel (and_right (eqb a.w b.w && eqb a.h b.h) (eqb a.ground_pixel b.ground_pixel) e)
 
 same_canvas : {Shape : Type 0} (a b : Sheet Shape) → same_header a b ≡ true → canvas a ≡ canvas b
 unfolding canvas
@@ -189,7 +189,7 @@ module _ (K : Kind) (pitch : ℕ) (s : Sheet K.Shape) (box : IRect) (px : List �
 
   -- a pixel of value v: outside the box it stays, inside it is that of the items drawn on the ground
   module _ (i : ℕ) (h : i < length px) (v : ℕ) (e : get_or px i 0 ≡ v) where
-    grounded : (b : IRect) → i < length (ground_in pitch b s.ground px)
+    grounded : (b : IRect) → i < length (ground_in pitch b s.ground_pixel px)
     grounded b = rw length_ground h
 
     left_outside : inside box (pos (i % pitch)) (pos (i / pitch)) ≡ false → get_or (pixels K pitch (draws s box) px) i 0 ≡ v
@@ -200,21 +200,21 @@ module _ (K : Kind) (pitch : ℕ) (s : Sheet K.Shape) (box : IRect) (px : List �
         simp (word_items, word_ground, o, e, stays)
 
     left_inside : inside box (pos (i % pitch)) (pos (i / pitch)) ≡ true
-        → get_or (pixels K pitch (draws s box) px) i 0 ≡ pixel_of K s.items box s.ground (i % pitch) (i / pitch)
+        → get_or (pixels K pitch (draws s box) px) i 0 ≡ pixel_of K s.items box s.ground_pixel (i % pitch) (i / pitch)
     unfolding pixels pixel_of
     left_inside o =
         let g = grounded in
         simp (word_items, word_ground, o, e)
 
-  pub pixels_drawn : pixels K pitch (draws s box) px ≡ painted_in K pitch box s.ground s.items px
+  pub pixels_drawn : pixels K pitch (draws s box) px ≡ painted_in K pitch box s.ground_pixel s.items px
   pixels_drawn =
-      ext_get_or 0 _ _ (left_length _ refl ∙ sym (length_drawn K pitch box s.ground s.items px))
+      ext_get_or 0 _ _ (left_length _ refl ∙ sym (length_drawn K pitch box s.ground_pixel s.items px))
       (λ i k. same_word i (rw (left_length _ refl) at k) (inside box (pos (i % pitch)) (pos (i / pitch))) refl)
     where
       same_word : (i : ℕ) → i < length px → (t : Bool) → inside box (pos (i % pitch)) (pos (i / pitch)) ≡ t
-          → get_or (pixels K pitch (draws s box) px) i 0 ≡ get_or (painted_in K pitch box s.ground s.items px) i 0
-      same_word i h true o = left_inside i h _ refl o ∙ sym (inside_drawn K pitch box s.ground s.items px i h o)
-      same_word i h false o = left_outside i h _ refl o ∙ sym (outside_kept K pitch box s.ground s.items px i h o)
+          → get_or (pixels K pitch (draws s box) px) i 0 ≡ get_or (painted_in K pitch box s.ground_pixel s.items px) i 0
+      same_word i h true o = left_inside i h _ refl o ∙ sym (inside_drawn K pitch box s.ground_pixel s.items px i h o)
+      same_word i h false o = left_outside i h _ refl o ∙ sym (outside_kept K pitch box s.ground_pixel s.items px i h o)
 
 -- ---- lengths are kept
 
@@ -324,13 +324,13 @@ same_pitch p q h e t = sym (mul-div_cancel p t) ∙ ap (λ (n : ℕ). n / h) e �
 
 module _ {Word : Type 0} (zero_word : Word) (F : Format) (law : Lawful F) where
   -- px that shows the items shows the sheet, and the other way
-  words : (s : Sheet F.kind.Shape) (pitch : ℕ) (px : List ℕ) → Shows F.kind pitch (canvas s) s.ground s.items px
+  words : (s : Sheet F.kind.Shape) (pitch : ℕ) (px : List ℕ) → Shows F.kind pitch (canvas s) s.ground_pixel s.items px
       → (i : ℕ) → i < length px → inside (canvas s) (pos (i % pitch)) (pos (i / pitch)) ≡ true
       → get_or px i 0 ≡ get_or (fresh F.kind s) (i / pitch * s.w + i % pitch) 0
   words s pitch px h i k f = h.shows i k f ∙ sym (fresh_at F.kind s (i % pitch) (i / pitch) f)
 
   shows_of : (pitch : ℕ) (before sheet px : List ℕ) (t : Shown F pitch before sheet px)
-      → Shows F.kind pitch (canvas t.held) t.held.ground t.held.items px
+      → Shows F.kind pitch (canvas t.held) t.held.ground_pixel t.held.items px
   shows_of pitch before sheet px t =
       record { shows = λ i k f. t.fresh_words i k f ∙ fresh_at F.kind t.held (i % pitch) (i / pitch) f }
 
@@ -341,17 +341,17 @@ module _ {Word : Type 0} (zero_word : Word) (F : Format) (law : Lawful F) where
   shown_first sheet pitch px scratch a px' scratch' c e =
       let p = paint_accepted F sheet pitch (length px) (length scratch) e in
       let s = p.held in
-      let d : px' ≡ painted_in F.kind pitch (canvas s) s.ground s.items px =
+      let d : px' ≡ painted_in F.kind pitch (canvas s) s.ground_pixel s.items px =
       c.paints ∙ ap (λ (o : Outcome F.kind.Shape). pixels F.kind pitch o px) p.is
       ∙ pixels_drawn F.kind pitch s (canvas s) px in
-      let n : length px' ≡ length px = ap length d ∙ length_drawn F.kind pitch (canvas s) s.ground s.items px in
+      let n : length px' ≡ length px = ap length d ∙ length_drawn F.kind pitch (canvas s) s.ground_pixel s.items px in
       record {
         held = s;
         reads = p.reads;
         room = p.lends.frame.rows.room;
         long = n ∙ p.lends.frame.long;
-        fresh_words = words s pitch px' (rw d (painted F.kind pitch (canvas s) s.ground s.items px));
-        margin = λ i k f. rw d (outside_kept F.kind pitch (canvas s) s.ground s.items px i (rw n at k) f);
+        fresh_words = words s pitch px' (rw d (painted F.kind pitch (canvas s) s.ground_pixel s.items px));
+        margin = λ i k f. rw d (outside_kept F.kind pitch (canvas s) s.ground_pixel s.items px i (rw n at k) f);
       }
 
   module _ (pitch : ℕ) (before kept px : List ℕ) (c : Call Word)
@@ -361,7 +361,7 @@ module _ {Word : Type 0} (zero_word : Word) (F : Format) (law : Lawful F) where
 
     -- what an accepted call left in px
     drew : (p : Accepted)
-        → c.px_left ≡ painted_in F.kind c.pitch (hull (canvas p.to) (reaches F.kind.reach p.pairs)) p.to.ground p.to.items px
+        → c.px_left ≡ painted_in F.kind c.pitch (hull (canvas p.to) (reaches F.kind.reach p.pairs)) p.to.ground_pixel p.to.items px
     drew p =
         did.paints ∙ ap (λ (o : Outcome F.kind.Shape). pixels F.kind c.pitch o px) p.is
         ∙ pixels_drawn F.kind c.pitch p.to _ px
@@ -384,10 +384,10 @@ module _ {Word : Type 0} (zero_word : Word) (F : Format) (law : Lawful F) where
       reads = p.reads_to;
       room = rw (← pitch_kept p s) p.lends.frame.rows.room;
       long = n ∙ s.long ∙ ap (λ (k : ℕ). pitch * k) (ap (λ (t : Sheet F.kind.Shape). t.h) held_is ∙ same_h p.from new p.header);
-      fresh_words = words new pitch c.px_left (rw d (redrawn F.kind pitch (canvas new) box new.ground p.from.items new.items p.pairs px
+      fresh_words = words new pitch c.px_left (rw d (redrawn F.kind pitch (canvas new) box new.ground_pixel p.from.items new.items p.pairs px
           (edited F.same law.sound p.from.items new.items (only (canvas new)) p.pairs p.differ)
           (hull_smallest (canvas new) (reaches F.kind.reach p.pairs)).around shows-old));
-      margin = λ i k f. rw d (outside_kept F.kind pitch box new.ground new.items px i (rw n at k) (out_of_hull (canvas new) (reaches F.kind.reach p.pairs) _ _ f))
+      margin = λ i k f. rw d (outside_kept F.kind pitch box new.ground_pixel new.items px i (rw n at k) (out_of_hull (canvas new) (reaches F.kind.reach p.pairs) _ _ f))
           ∙ s.margin i (rw n at k) (rw canvas-held f);
     }
       where
@@ -403,16 +403,16 @@ module _ {Word : Type 0} (zero_word : Word) (F : Format) (law : Lawful F) where
         canvas-held : canvas s.held ≡ canvas p.to
         canvas-held = ap (λ (t : Sheet F.kind.Shape). canvas t) held_is ∙ same_canvas p.from p.to p.header
 
-        d : c.px_left ≡ painted_in F.kind pitch box p.to.ground p.to.items px
-        d = drew p ∙ ap (λ (k : ℕ). painted_in F.kind k box p.to.ground p.to.items px) (pitch_kept p s)
+        d : c.px_left ≡ painted_in F.kind pitch box p.to.ground_pixel p.to.items px
+        d = drew p ∙ ap (λ (k : ℕ). painted_in F.kind k box p.to.ground_pixel p.to.items px) (pitch_kept p s)
 
         n : length c.px_left ≡ length px
-        n = ap length d ∙ length_drawn F.kind pitch box p.to.ground p.to.items px
+        n = ap length d ∙ length_drawn F.kind pitch box p.to.ground_pixel p.to.items px
 
-        shows-held : Shows F.kind pitch (canvas p.from) p.from.ground p.from.items px
-        shows-held = subst (λ (t : Sheet F.kind.Shape). Shows F.kind pitch (canvas t) t.ground t.items px) held_is (shows_of pitch before kept px s)
+        shows-held : Shows F.kind pitch (canvas p.from) p.from.ground_pixel p.from.items px
+        shows-held = subst (λ (t : Sheet F.kind.Shape). Shows F.kind pitch (canvas t) t.ground_pixel t.items px) held_is (shows_of pitch before kept px s)
 
-        shows-old : Shows F.kind pitch (canvas p.to) p.to.ground p.from.items px
+        shows-old : Shows F.kind pitch (canvas p.to) p.to.ground_pixel p.from.items px
         shows-old = rw (← same_canvas p.from p.to p.header, ← same_ground p.from p.to p.header) shows-held
 
     pub confined : Accepted → Confined F kept px c
@@ -424,7 +424,7 @@ module _ {Word : Type 0} (zero_word : Word) (F : Format) (law : Lawful F) where
       reads_new = p.reads_to;
       differ = p.differ;
       smallest = rw (area_is p) (hull_smallest (canvas p.to) (reaches F.kind.reach p.pairs));
-      outside = λ i h o. rw (drew p) (outside_kept F.kind c.pitch _ p.to.ground p.to.items px i h (rw (area_is p) at o));
+      outside = λ i h o. rw (drew p) (outside_kept F.kind c.pitch _ p.to.ground_pixel p.to.items px i h (rw (area_is p) at o));
     }
 
     -- the model's outcome
@@ -467,7 +467,7 @@ module _ {Word : Type 0} (zero_word : Word) (F : Format) (law : Lawful F) where
   always pitch before kept px (c ∷ cs) s f = (
     s,
     right pitch before kept px c f.0 s,
-    always pitch before _ c.px_left cs (shown_after pitch before kept px c f.0 s) (rw (← last_kept pitch before kept px c f.0) f.1),
+    always pitch before (kept_after F kept c.sheet c.pitch (length px) (length c.scratch)) c.px_left cs (shown_after pitch before kept px c f.0 s) (rw (← last_kept pitch before kept px c f.0) f.1),
   )
 
   -- DEMAND 3

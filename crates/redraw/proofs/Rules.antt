@@ -114,5 +114,5 @@ module _ {Word : Type 0} (zero_word : Word) (F : Format) (pitch : ℕ) (px : Lis
 pub drawn_none : (K : Kind) (pitch : ℕ) (s : Sheet K.Shape) (px : List ℕ) → pixels K pitch (draws s no_box) px ≡ px
 drawn_none K pitch s px =
     pixels_drawn K pitch s no_box px
-    ∙ ext_get_or 0 _ _ (length_drawn K pitch no_box s.ground s.items px)
-    (λ i h. outside_kept K pitch no_box s.ground s.items px i (rw length_drawn at h) (in_no_box (pos (i % pitch)) (pos (i / pitch))))
+    ∙ ext_get_or 0 _ _ (length_drawn K pitch no_box s.ground_pixel s.items px)
+    (λ i h. outside_kept K pitch no_box s.ground_pixel s.items px i (rw length_drawn at h) (in_no_box (pos (i % pitch)) (pos (i / pitch))))

@@ -42,7 +42,7 @@ module _ (K : Kind) where
     -- box's area"
     pub shapes : r.steps ≤ read_meeting r.answer.area new * box_area r.answer.area
     -- "The ground count is at most the area."
-    pub ground : r.grounded ≤ box_area r.answer.area
+    pub grounds : r.grounded ≤ box_area r.answer.area
     -- "an empty box gives zero twice"
     pub none : empty r.answer.area ≡ true → (r.steps ≡ 0) × (r.grounded ≡ 0)
 

@@ -22,12 +22,12 @@ module _ (K : Kind) where
   -- of a call with an outcome, on px in rows of `pitch` words: by its shapes, and by the ground
   unfoldable pub steps_of : ℕ → Outcome K.Shape → List ℕ → ℕ
   steps_of pitch (refuses n k) px = 0
-  steps_of pitch (draws s box) px = items_alter pitch s.items (only box) (ground_in pitch box s.ground px)
+  steps_of pitch (draws s box) px = items_alter pitch s.items (only box) (ground_in pitch box s.ground_pixel px)
 
   unfoldable pub grounds_of : ℕ → Outcome K.Shape → List ℕ → ℕ
   grounds_of pitch (refuses n k) px = 0
-  grounds_of pitch (draws s box) px = differ px (ground_in pitch box s.ground px)
+  grounds_of pitch (draws s box) px = differ px (ground_in pitch box s.ground_pixel px)
 
   -- how busy a sheet is: the steps of its fresh painting
   unfoldable pub fresh_steps : Sheet K.Shape → ℕ
-  fresh_steps s = items_alter s.w s.items (only (canvas s)) (replicate (s.w * s.h) s.ground)
+  fresh_steps s = items_alter s.w s.items (only (canvas s)) (replicate (s.w * s.h) s.ground_pixel)

@@ -71,20 +71,20 @@ module _ (K : Kind) where
   pixel [] x y p = p
   pixel (s ∷ r) x y p = pixel r x y (inked (meets s x y) s.drawn x y p)
 
-  -- the pixel of the items drawn on `ground` from a first clip, nothing saved
+  -- the pixel of the items drawn on `ground_pixel` from a first clip, nothing saved
   unfoldable pub pixel_of : List (Item K.Shape) → IRect → ℕ → ℕ → ℕ → ℕ
-  pixel_of items first ground x y = pixel (steps items (only first)) x y ground
+  pixel_of items first ground_pixel x y = pixel (steps items (only first)) x y ground_pixel
 
 module _ (K : Kind) where
   -- the word p at column x and row y after a box is grounded and drawn: only words of the box are altered
   unfoldable pub word_in : Bool → List (Item K.Shape) → IRect → ℕ → ℕ → ℕ → ℕ → ℕ
-  word_in true items box ground x y p = pixel_of K items box ground x y
-  word_in false items box ground x y p = p
+  word_in true items box ground_pixel x y p = pixel_of K items box ground_pixel x y
+  word_in false items box ground_pixel x y p = p
 
   -- px, in rows of `pitch` words, after the box is set to the ground and the items are drawn with the box as first clip
   unfoldable pub painted_in : ℕ → IRect → ℕ → List (Item K.Shape) → List ℕ → List ℕ
-  painted_in pitch box ground items =
-      each_at (λ i p. word_in (inside box (pos (i % pitch)) (pos (i / pitch))) items box ground (i % pitch) (i / pitch) p) 0
+  painted_in pitch box ground_pixel items =
+      each_at (λ i p. word_in (inside box (pos (i % pitch)) (pos (i / pitch))) items box ground_pixel (i % pitch) (i / pitch) p) 0
 
 -- ---- item by item: what the shape methods and the loop over the items leave in px
 
@@ -106,4 +106,4 @@ module _ (K : Kind) where
 
 -- px after a box is set to the ground
 unfoldable pub ground_in : ℕ → IRect → ℕ → List ℕ → List ℕ
-ground_in pitch box ground = each_at (λ i p. cond (inside box (pos (i % pitch)) (pos (i / pitch))) ground p) 0
+ground_in pitch box ground_pixel = each_at (λ i p. cond (inside box (pos (i % pitch)) (pos (i / pitch))) ground_pixel p) 0

@@ -20,4 +20,4 @@ module _ (K : Kind) where
 
   -- a sheet without the others, its clips being those of painting it from nothing
   abbrev pub shed_of : Sheet K.Shape → Sheet K.Shape
-  shed_of s = record { w = s.w; h = s.h; ground = s.ground; items = shed s.items (only (canvas s)) }
+  shed_of s = record { w = s.w; h = s.h; ground_pixel = s.ground_pixel; items = shed s.items (only (canvas s)) }

@@ -13,7 +13,7 @@ use Rattle.redraw.specs.Drawing.{Item, push, pop, shape, Clips, only, after, Ste
 pub record Sheet (Shape : Type 0) : Type 0 where
   pub w : ℕ
   pub h : ℕ
-  pub ground : ℕ
+  pub ground_pixel : ℕ
   pub items : List (Item Shape)
 
 -- the reading of some bytes: refused, with number and item, or a sheet
@@ -98,7 +98,7 @@ unfoldable pub canvas : {Shape : Type 0} → Sheet Shape → IRect
 canvas s = record { x0 = pos 0; y0 = pos 0; x1 = pos s.w; y1 = pos s.h }
 
 unfoldable pub same_header : {Shape : Type 0} → Sheet Shape → Sheet Shape → Bool
-same_header a b = (eqb a.w b.w && eqb a.h b.h) && eqb a.ground b.ground
+same_header a b = (eqb a.w b.w && eqb a.h b.h) && eqb a.ground_pixel b.ground_pixel
 
 -- refuses by a number that is not 0; else draws the sheet in the box
 unfoldable pub draws_unless : {Shape : Type 0} → ℕ → Sheet Shape → IRect → Outcome Shape
@@ -151,7 +151,7 @@ answer (draws s box) = record { number = 0; item = 0; area = box }
 -- px, in rows of `pitch` words
 unfoldable pub pixels : (K : Kind) → ℕ → Outcome K.Shape → List ℕ → List ℕ
 pixels K pitch (refuses n k) px = px
-pixels K pitch (draws s box) px = items_on K pitch s.items (only box) (ground_in pitch box s.ground px)
+pixels K pitch (draws s box) px = items_on K pitch s.items (only box) (ground_in pitch box s.ground_pixel px)
 
 module _ {Word : Type 0} (zero_word : Word) (F : Format) where
   unfoldable pub cleared : Outcome F.kind.Shape → List Word → List Word
@@ -166,4 +166,4 @@ accepted (draws s box) = true
 -- drawn one after the other. It has w words a row: the pitch is no part of a sheet.
 module _ (K : Kind) where
   unfoldable pub fresh : Sheet K.Shape → List ℕ
-  fresh s = items_on K s.w s.items (only (canvas s)) (replicate (s.w * s.h) s.ground)
+  fresh s = items_on K s.w s.items (only (canvas s)) (replicate (s.w * s.h) s.ground_pixel)

@@ -151,7 +151,7 @@ margin =
           (drawn_kept c (reach_all (chain_of pts width color)) (ink_all (chain_of pts width color)) px (points_open c (length px) pts ok z).canvas.valid));
       polygon = λ c pts paint px scratch r px' scratch' d. kept_left _ px _ d.called.called.paints
           (λ z. drawn_kept c (poly_reach pts) (poly_ink pts paint) px (poly_valid c (length px) pts paint (length scratch) z));
-      ground = λ c v px r px' d. kept_left _ px _ d.called.paints (λ z. drawn_kept c c.clip (λ _ _ _. v) px (open_of c (length px) z).valid);
+      grounding = λ c v px r px' d. kept_left _ px _ d.called.paints (λ z. drawn_kept c c.clip (λ _ _ _. v) px (open_of c (length px) z).valid);
       brush = λ c b ok rect radius px r px' d. kept_left _ px _ d.called.paints
           (λ z. drawn_kept c (fill_reach rect) (fill_ink rect radius (paint_of b)) px (brush_valid c (length px) b ok z));
       brush_polygon = λ c pts b px scratch r px' scratch' d. kept_left _ px _ d.called.called.paints

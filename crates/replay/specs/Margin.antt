@@ -59,7 +59,7 @@ pub record Margin : Type 0 where
       → Filled (poly_number c (length px) pts paint (length scratch)) c px pts paint scratch r px' scratch'
       → Kept c.pitch (up c.w) px px'
   -- `fill_ground`, which painting and patching share
-  pub ground : (c : Canvas) (v : ℕ) (px : List ℕ) (r : Counted) (px' : List ℕ)
+  pub grounding : (c : Canvas) (v : ℕ) (px : List ℕ) (r : Counted) (px' : List ℕ)
       → ShapeCalled (px_number c (length px)) c px (drawn c.pitch c.clip c.clip (λ _ _ _. v) px) r px'
       → Kept c.pitch (up c.w) px px'
   -- the calls of C and Rust whose paint comes as a brush: `maldjupp_fill_rrect`, `maldjupp_fill_rect`, `maldjupp_fill_circle`;
