@@ -1,0 +1,11 @@
+-- `fill::fill_row` meets its contract. Assumes nothing.
+use Rattle.draw.proofs.Loops.{drew_as}
+use Rattle.draw.proofs.Rows.{row_same}
+use Rattle.paints.proofs.Colours.{row_colour}
+use Rattle.fill.proofs.Parts.{same_paint}
+use Rattle.fill.proofs.fill_row.Goals as goal
+
+pub returns : goal.returns
+returns c =
+    drew_as c.row_parts.ensures
+    (row_same _ _ _ _ _ _ _ (λ x p _ _. same_paint _ _ _ _ _ (λ k. rw (c.in_row-here.ensures, c.centre.ensures) (row_colour _ k _)) x p))

@@ -1,0 +1,11 @@
+-- `line::segment_row` meets its contract. The columns before x are drawn. Assumes nothing.
+use Prim.Native.Nat.{◌-◌}
+use Rattle.draw.proofs.Loops.{InRow}
+use Rattle.line.specs.Lines.{segment_ink}
+use Rattle.line.proofs.segment_row.Given as goal
+
+abbrev pub invariant-loop-x : goal.invariant-loop-x
+invariant-loop-x l = InRow l.pitch (segment_ink l.s l.color) l.y l.x0 l.x1 l.initial.px l.px l.n l.x
+
+abbrev pub decreases-loop-x : goal.decreases-loop-x
+decreases-loop-x l = l.x1 - l.x

@@ -1,0 +1,11 @@
+-- `shadow::each_span` meets its contract. The columns before x are drawn. Assumes nothing.
+use Prim.Native.Nat.{◌-◌}
+use Rattle.draw.proofs.Loops.{InRow}
+use Rattle.shadow.specs.Spans.{each_ink}
+use Rattle.shadow.proofs.each_span.Given as goal
+
+abbrev pub invariant-loop-x : goal.invariant-loop-x
+invariant-loop-x l = InRow l.pitch (each_ink l.c l.x0 l.alphas) l.y l.x0 l.x1 l.initial.px l.px l.n l.x
+
+abbrev pub decreases-loop-x : goal.decreases-loop-x
+decreases-loop-x l = l.x1 - l.x

@@ -1,0 +1,11 @@
+-- `stroke::column_covers` meets its contract. The columns before x are filled. Assumes nothing.
+use Prim.Native.Nat.{◌-◌}
+use Rattle.draw.proofs.Held.{Filling}
+use Rattle.stroke.specs.Rows.{column_cover}
+use Rattle.stroke.proofs.column_covers.Given as goal
+
+abbrev pub invariant-loop-x : goal.invariant-loop-x
+invariant-loop-x l = Filling (column_cover l.s l.width) 2048 l.x0 l.x1 l.cols l.x
+
+abbrev pub decreases-loop-x : goal.decreases-loop-x
+decreases-loop-x l = l.x1 - l.x

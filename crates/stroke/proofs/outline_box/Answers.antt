@@ -1,0 +1,34 @@
+-- `stroke::outline_box` meets its contract. The rows before y are drawn. Assumes nothing.
+use Prim.Native.Nat.{◌-◌}
+use native.Mathlib.Omega.{arith}
+use Rattle.stroke.specs.Stroke.{outline_ink}
+use Rattle.draw.proofs.Loops.{rows_start, rows_next, rows_end, row_fits}
+use Rattle.stroke.proofs.outline_box.Goals as goal
+
+pub loop-y-init : goal.loop-y-init
+loop-y-init c =
+    let o = c.args.o in
+    rows_start _ (outline_ink o.s o.width o.c) _ _ _ _ _ c.requires.area_fits.down
+
+pub outline_row-n-requires : goal.outline_row-n-requires
+outline_row-n-requires c =
+    record { row_fits = row_fits c.requires.area_fits c.loop-y.invariant c.loop-y-test.true; ready = c.requires.ready }
+
+pub overflow_add-n : goal.overflow_add-n
+overflow_add-n c = omega arith
+
+pub overflow_step-y : goal.overflow_step-y
+overflow_step-y c = omega arith
+
+pub loop-y-smaller : goal.loop-y-smaller
+loop-y-smaller c = omega arith
+
+pub loop-y-preserved : goal.loop-y-preserved
+loop-y-preserved c =
+    rows_next c.requires.area_fits.wide c.loop-y.invariant c.loop-y-test.true c.outline_row-n.ensures
+
+pub shape_of-px : goal.shape_of-px
+shape_of-px c = omega arith
+
+pub returns : goal.returns
+returns c = rows_end c.requires.area_fits.high c.loop-y.invariant c.loop-y-test.false
