@@ -10,7 +10,7 @@ ranged : (c : Else-pts-lt3) → Ranged c.args.pts.now
 ranged c = record { few = c.requires.0; some = c.if-pts-lt3.false; coords = c.requires.1 }
 
 near : (c : After-poly_box-g) → Near c.poly_box-g.result
-near c = rw c.poly_box-g.ensures (box_near c.args.pts.now (ranged c.before))
+near c = rw c.poly_box-g.ensures (box_near c.args.pts.now (record { few = c.requires.0; some = c.if-pts-lt3.false; coords = c.requires.1 }))
 
 pub returns-then-pts-lt3 : goal.returns-then-pts-lt3
 returns-then-pts-lt3 c = few_plan c.args.pts.now c.if-pts-lt3.true

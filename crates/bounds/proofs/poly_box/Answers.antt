@@ -15,10 +15,14 @@ whole : (e : After-extent_of-e) → Whole e.extent_of-e.result
 whole e = rw e.extent_of-e.ensures (extent_whole e.args.pts.now e.requires)
 
 ox-near : (o : After-origin-ox) → nat_abs o.origin-ox.result ≤ 8193
-ox-near o = rw o.origin-ox.ensures (origin_near o.extent_of-e.result.minx (whole o.before).left)
+ox-near o =
+    let w : Whole o.extent_of-e.result = rw o.extent_of-e.ensures (extent_whole o.args.pts.now o.requires) in
+    rw o.origin-ox.ensures (origin_near o.extent_of-e.result.minx w.left)
 
 oy-near : (o : After-origin-oy) → nat_abs o.origin-oy.result ≤ 8193
-oy-near o = rw o.origin-oy.ensures (origin_near o.extent_of-e.result.miny (whole o.before.before).top)
+oy-near o =
+    let w : Whole o.extent_of-e.result = rw o.extent_of-e.ensures (extent_whole o.args.pts.now o.requires) in
+    rw o.origin-oy.ensures (origin_near o.extent_of-e.result.miny w.top)
 
 ox-back : (o : After-origin-ox) → to_z w32 (of_z w32 o.origin-ox.result) ≡ o.origin-ox.result
 ox-back o = back o.origin-ox.result (omega (arith, ox-near o))

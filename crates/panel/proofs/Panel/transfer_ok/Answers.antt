@@ -5,5 +5,5 @@ use Rattle.panel.proofs.Panel.transfer_ok.Goals as goal
 pub returns : goal.returns
 unfolding transfer_ok
 returns c =
-    rw (c.has.ensures, c.before.IsPlace-in.ensures, c.pixels_left.ensures.0, c.row.ensures.0)
+    rw (c.has.ensures, c.before.place_in-place.ensures, c.pixels_left.ensures.0, c.row.ensures.0)
     (rw (c.column.ensures.0, c.is_empty-full.ensures))
