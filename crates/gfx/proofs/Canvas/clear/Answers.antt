@@ -1,4 +1,5 @@
 -- `gfx::Canvas::clear` meets its contract. Assumes nothing.
+use borrow.Author.Rules.{rules}
 use mathlib.Core.Path.{◌≡◌, ◌∙◌, sym}
 use Rattle.geom.specs.Int.{up}
 use Rattle.geom.proofs.Signed.{kept}
@@ -12,12 +13,12 @@ use Rattle.gfx.proofs.Canvas.clear.Goals as goal
 columns : (c : After-nat_of) → c.nat_of.result ≡ up c.args.self.w
 columns c =
     let s = c.args.self in
-    simp (kept s.w c.struct_told-1.given.0.1) at c.nat_of.ensures
+    simp (kept s.w (search rules)) at c.nat_of.ensures
 
 rows : (c : After-nat_of-2) → c.nat_of-2.result ≡ up c.args.self.h
 rows c =
     let s = c.args.self in
-    simp (kept s.h c.struct_told-2-1.given.1.0.1) at c.nat_of-2.ensures
+    simp (kept s.h (search rules)) at c.nat_of-2.ensures
 
 pub returns-then-number-ne0 : goal.returns-then-number-ne0
 returns-then-number-ne0 c = refused_call c.px_number-number.ensures c.if-number-ne0.true

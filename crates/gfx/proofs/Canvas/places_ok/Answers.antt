@@ -1,4 +1,5 @@
 -- `gfx::Canvas::places_ok` meets its contract. Assumes nothing.
+use borrow.Author.Rules.{rules}
 use mathlib.Core.Path.{◌≡◌, ◌∙◌, sym}
 use mathlib.Core.Bool.{true}
 use Prim.Native.Nat.{◌-◌}
@@ -25,8 +26,8 @@ here : (c : After-place_ok) → let l = c.before.before.before.before.before.bef
 unfolding place_ok no_box
 here c =
     let s = c.args.self in
-    let w = kept s.w c.struct_told-1.given.0.1 in
-    let h = kept s.h c.struct_told-in-loop-i-1.given.1.0.1 in
+    let w = kept s.w (search rules) in
+    let h = kept s.h (search rules) in
     simp (w, h) at c.place_ok.ensures
 
 pub returns-then-not-place_ok : goal.returns-then-not-place_ok

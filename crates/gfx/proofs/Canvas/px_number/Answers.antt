@@ -1,4 +1,5 @@
 -- `gfx::Canvas::px_number` meets its contract. Assumes nothing.
+use borrow.Author.Rules.{rules}
 use mathlib.Core.Path.{◌≡◌, ◌∙◌, sym}
 use mathlib.Core.Bool.{true}
 use native.Mathlib.Omega.{arith}
@@ -16,12 +17,12 @@ good c = sym c.valid.ensures ∙ c.if-not-valid.false
 wide : (c : After-nat_of) → c.nat_of.result ≡ up c.args.self.w
 wide c =
     let s = c.args.self in
-    simp (kept s.w c.struct_told-1.given.0.1) at c.nat_of.ensures
+    simp (kept s.w (search rules)) at c.nat_of.ensures
 
 tall : (c : After-nat_of-2) → c.nat_of-2.result ≡ up c.args.self.h
 tall c =
     let s = c.args.self in
-    simp (kept s.h c.struct_told-2-1.given.1.0.1) at c.nat_of-2.ensures
+    simp (kept s.h (search rules)) at c.nat_of-2.ensures
 
 pub returns-then-not-valid : goal.returns-then-not-valid
 unfolding px_number

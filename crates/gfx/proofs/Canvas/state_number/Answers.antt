@@ -1,4 +1,5 @@
 -- `gfx::Canvas::state_number` meets its contract. Assumes nothing.
+use borrow.Author.Rules.{rules}
 use mathlib.Core.Path.{◌∙◌, sym}
 use Rattle.geom.proofs.Signed.{kept}
 use Rattle.gfx.specs.Calls.{state_number}
@@ -13,5 +14,5 @@ unfolding state_number
 returns c =
     let t = c.before.before in
     let d = t.before in
-    let w = simp (kept d.args.self.w t.struct_told-1.given.0.1) at c.nat_of.ensures in
+    let w = simp (kept d.args.self.w (search rules)) at c.nat_of.ensures in
     c.pitch_number.ensures ∙ simp (w, sym d.valid.ensures ∙ d.if-not-valid.false)
