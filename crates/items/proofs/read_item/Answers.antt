@@ -38,8 +38,8 @@ returns-in-8 c = simp (sym c.byte_at-kind.ensures ∙ c.in-8.is) c.read_chain.en
 
 pub returns-in-0 : goal.returns-in-0
 unfolding read_item
-returns-in-0 c = simp (sym c.byte_at-kind.ensures ∙ c.in-0.is)
+returns-in-0 c = simp (sym c.byte_at-kind.ensures ∙ c.in-0.in-0-own.keys9)
 
 pub returns-in-0-2 : goal.returns-in-0-2
 unfolding read_item
-returns-in-0-2 c = sym (no_kind _ _ _ _ _ _ _ _ _ _ (rw c.byte_at-kind.ensures at c.in-0.rest.0))
+returns-in-0-2 c = sym (no_kind _ _ _ _ _ _ _ _ _ _ (rw c.byte_at-kind.ensures at c.in-0.in-0-own.rest.0))

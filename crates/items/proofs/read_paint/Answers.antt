@@ -19,5 +19,5 @@ returns-in-2 c = simp (sym c.byte_at-kind.ensures ∙ c.in-2.is, c.read_pt-in-2.
 pub returns-in-3-to-255 : goal.returns-in-3-to-255
 unfolding read_paint
 returns-in-3-to-255 c =
-    let no = rw c.byte_at-kind.ensures at c.in-3-to-255.rest in
+    let no = rw c.byte_at-kind.ensures at c.in-3-to-255.in-3-to-255-own.rest in
     simp (ne_eqb _ 0 no.0.0.1, ne_eqb _ 1 no.0.1, ne_eqb _ 2 no.1, c.f32_at-in-3-to-255.ensures, c.read_pt-in-3-to-255.ensures, c.read_color-c1.ensures, c.read_color-c0.ensures)

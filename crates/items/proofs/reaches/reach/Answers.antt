@@ -87,8 +87,8 @@ returns-in-8 c = simp (sym c.byte_at-kind.ensures ∙ c.in-8.is) (c.chain_reach.
 
 pub returns-in-0-to-2 : goal.returns-in-0-to-2
 unfolding no_box
-returns-in-0-to-2 c = c.new.ensures ∙ no_shape _ (rw c.byte_at-kind.ensures at c.in_default-1.rest)
+returns-in-0-to-2 c = c.new.ensures ∙ no_shape _ (rw c.byte_at-kind.ensures at c.in-0-to-2.in_default-own.rest)
 
 pub returns-in-9-to-255 : goal.returns-in-9-to-255
 unfolding no_box
-returns-in-9-to-255 c = c.new-in-9-to-255.ensures ∙ no_shape _ (rw c.byte_at-kind.ensures at c.in_default-1.rest)
+returns-in-9-to-255 c = c.new-in-9-to-255.ensures ∙ no_shape _ (rw c.byte_at-kind.ensures at c.in-9-to-255.in_default-own.rest)
