@@ -13,7 +13,7 @@ pub returns-in-2 : goal.returns-in-2
 returns-in-2 c = no_pop _ (rw c.byte_at-kind.ensures at c.in-2.is)
 
 pub returns-in-0 : goal.returns-in-0
-returns-in-0 c = let k = rw c.byte_at-kind.ensures at c.in-0.is in a_shape _ (λ e. omega arith) (λ e. omega arith)
+returns-in-0 c = let k = rw c.byte_at-kind.ensures at c.in-0.in-0-own.keys3 in a_shape _ (λ e. omega arith) (λ e. omega arith)
 
 pub returns-in-0-2 : goal.returns-in-0-2
-returns-in-0-2 c = let k = rw c.byte_at-kind.ensures at c.in-0.rest in a_shape _ k.0.0.1 k.0.1
+returns-in-0-2 c = let k = rw c.byte_at-kind.ensures at c.in-0.in-0-own.rest in a_shape _ k.0.0.1 k.0.1

@@ -33,12 +33,12 @@ returns-in-2 c =
 
 pub returns-in-0 : goal.returns-in-0
 returns-in-0 c =
-    let k = rw c.byte_at-kind.ensures at c.in-0.is in
+    let k = rw c.byte_at-kind.ensures at c.in-0.in-0-own.keys3 in
     let a = c.args in
     sym (shape_leaves a.b.now (item_of a.b.now) a.canvas (sym (a_shape a.b.now (λ e. omega arith) (λ e. omega arith))))
 
 pub returns-in-0-2 : goal.returns-in-0-2
 returns-in-0-2 c =
-    let k = rw c.byte_at-kind.ensures at c.in-0.rest in
+    let k = rw c.byte_at-kind.ensures at c.in-0.in-0-own.rest in
     let a = c.args in
     sym (shape_leaves a.b.now (item_of a.b.now) a.canvas (sym (a_shape a.b.now k.0.0.1 k.0.1)))
