@@ -53,18 +53,18 @@ slice_bounds-kept-end c = omega (arith, c.keep-count.ensures.1)
 pub slice_bounds-write_chosen-end : goal.slice_bounds-write_chosen-end
 slice_bounds-write_chosen-end c =
     let kept = c.keep-count in
-    let long : length kept.new.1.0 ≡ 1024 = search rules in
-    sym (length-take-le kept.result kept.new.1.0 (omega (arith, kept.ensures.1)))
+    let long : length kept.new.kept ≡ 1024 = search rules in
+    sym (length-take-le kept.result kept.new.kept (omega (arith, kept.ensures.1)))
 
 pub write_chosen-requires : goal.write_chosen-requires
 write_chosen-requires c =
     let kept = c.keep-count in
     let e = was_read _ _ c.check_sheet-v.ensures c.if-number-ne0.false in
-    small_of _ e kept.new.1.0 kept.result kept.ensures.1
+    small_of _ e kept.new.kept kept.result kept.ensures.1
 
 pub returns : goal.returns
 returns c =
     let a = c.args in
     let kept = c.keep-count in
     let e = was_read _ _ c.check_sheet-v.ensures c.if-number-ne0.false in
-    is_read a.sheet.now a.buf.now e (take kept.result kept.new.1.0) kept.ensures.0 _ _ c.write_chosen.ensures
+    is_read a.sheet.now a.buf.now e (take kept.result kept.new.kept) kept.ensures.0 _ _ c.write_chosen.ensures

@@ -31,7 +31,7 @@ offset_bounds-kept-count c = omega (arith, c.u16_at-n.ensures.1, c.loop-k.invari
 pub bounds-kept-count : goal.bounds-kept-count
 bounds-kept-count c =
     let u = c.u16_at-n in
-    room c.args.s.now c.requires.0 u.result u.ensures.0 c.loop-k.auto c.loop-k.canvas c.loop-k.count c.loop-k.k c.loop-k.invariant c.loop-k-test.true
+    room c.args.s.now c.requires.0 u.result u.ensures.0 c.loop-k.kept c.loop-k.canvas c.loop-k.count c.loop-k.k c.loop-k.invariant c.loop-k-test.true
 
 -- ---- a shape
 pub is_shape-requires : goal.is_shape-requires
@@ -55,7 +55,7 @@ loop-k-preserved-then-is_shape c =
     let p = c.item_bytes-b.ensures in
     let u = c.u16_at-n in
     let i = rw p at (sym c.is_shape.ensures ∙ c.if-is_shape.true) in
-    keeping_shape c.args.s.now c.requires.0 u.result u.ensures.0 c.loop-k.auto c.loop-k.canvas c.loop-k.count c.loop-k.k c.loop-k.invariant
+    keeping_shape c.args.s.now c.requires.0 u.result u.ensures.0 c.loop-k.kept c.loop-k.canvas c.loop-k.count c.loop-k.k c.loop-k.invariant
     c.loop-k-test.true i c.in_view-count.result (c.in_view-count.ensures.0 ∙ rw p)
 
 -- ---- a push or a pop
@@ -78,7 +78,7 @@ loop-k-preserved c =
     let u = c.u16_at-n in
     let i = rw p at (sym c.is_shape.ensures ∙ c.if-is_shape.false) in
     rw (c.state_after-canvas.ensures, p)
-    (keeping_other c.args.s.now c.requires.0 u.result u.ensures.0 c.loop-k.auto c.loop-k.canvas c.loop-k.count c.loop-k.k c.loop-k.invariant
+    (keeping_other c.args.s.now c.requires.0 u.result u.ensures.0 c.loop-k.kept c.loop-k.canvas c.loop-k.count c.loop-k.k c.loop-k.invariant
     c.loop-k-test.true i)
 
 pub shape_of-kept : goal.shape_of-kept
@@ -87,5 +87,5 @@ shape_of-kept c = c.loop-k.invariant.long ∙ sym c.requires.1
 pub returns : goal.returns
 returns c =
     let u = c.u16_at-n in
-    let end = keeping_end c.args.s.now u.result c.loop-k.auto c.loop-k.canvas c.loop-k.count c.loop-k.k c.loop-k.invariant c.loop-k-test.false in
+    let end = keeping_end c.args.s.now u.result c.loop-k.kept c.loop-k.canvas c.loop-k.count c.loop-k.k c.loop-k.invariant c.loop-k-test.false in
     (end, omega (arith, c.loop-k.invariant.low, c.loop-k.invariant.within, few_items c.args.s.now c.requires.0 u.result u.ensures.0))

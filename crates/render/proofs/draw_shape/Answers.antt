@@ -4,50 +4,23 @@ use Rattle.gfx.proofs.Steps.{steps_left}
 use Rattle.render.specs.Stages.{shape_px, shape_scratch, shape_steps}
 use Rattle.render.proofs.draw_shape.Goals as goal
 
-pub enum_told-1 : goal.enum_told-1
-enum_told-1 c = c.in-Push.is
-
-pub enum_told-in-Pop : goal.enum_told-in-Pop
-enum_told-in-Pop c = c.in-Pop.is
-
-pub enum_known-item : goal.enum_known-item
-enum_known-item c = c.in-Fill.is
-
 pub fill_rrect-requires : goal.fill_rrect-requires
 fill_rrect-requires c = tt
-
-pub enum_known-item-in-Stroke-1 : goal.enum_known-item-in-Stroke-1
-enum_known-item-in-Stroke-1 c = c.in-Stroke.is
 
 pub stroke_rrect-requires : goal.stroke_rrect-requires
 stroke_rrect-requires c = tt
 
-pub enum_known-item-in-Line-1 : goal.enum_known-item-in-Line-1
-enum_known-item-in-Line-1 c = c.in-Line.is
-
 pub line-requires : goal.line-requires
 line-requires c = tt
-
-pub enum_known-item-in-Poly-1 : goal.enum_known-item-in-Poly-1
-enum_known-item-in-Poly-1 c = c.in-Poly.is
 
 pub draw_poly-requires : goal.draw_poly-requires
 draw_poly-requires c = tt
 
-pub enum_known-item-in-Shadow-1 : goal.enum_known-item-in-Shadow-1
-enum_known-item-in-Shadow-1 c = c.in-Shadow.is
-
 pub shadow_rrect-requires : goal.shadow_rrect-requires
 shadow_rrect-requires c = tt
 
-pub enum_known-item-in-Chain-1 : goal.enum_known-item-in-Chain-1
-enum_known-item-in-Chain-1 c = c.in-Chain.is
-
 pub draw_chain-requires : goal.draw_chain-requires
 draw_chain-requires c = tt
-
-pub enum_told-in-Unknown : goal.enum_told-in-Unknown
-enum_told-in-Unknown c = c.in-Unknown.is
 
 pub returns-in-Push : goal.returns-in-Push
 unfolding shape_px shape_scratch shape_steps
