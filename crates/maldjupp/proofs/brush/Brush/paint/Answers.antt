@@ -18,5 +18,5 @@ returns-in-2 c = simp (c.in-2.is, c.new-in-2.ensures, c.new.ensures)
 pub returns-in-3-to-4294967295 : goal.returns-in-3-to-4294967295
 unfolding paint_of
 returns-in-3-to-4294967295 c =
-    let no = c.in-3-to-4294967295.rest in
+    let no = c.in-3-to-4294967295.in-3-to-4294967295-own.rest in
     simp (ne_eqb _ 0 no.0.0.1, ne_eqb _ 1 no.0.1, ne_eqb _ 2 no.1, c.new-in-3-to-4294967295.ensures)
