@@ -1,5 +1,5 @@
 /* Maldjupp: a sheet of shapes is painted and patched, a canvas drawn on call by call, and a box of pixels handed over through a panel's registers,
- * by the proved static library libmaldjupp.a, which `rt staticlib maldjupp` writes.
+ * by the proved static library libmaldjupp.a, which `tools/library maldjupp` writes.
  *
  * Sheet, buffer, pixels, points and scratch are lent for the call. Only what is lent is touched, whatever the bytes and numbers are, and nothing
  * is kept. Lent pieces must not overlap. A pointer whose length is 0 must not be null: give the address of anything.

@@ -1,4 +1,4 @@
-//! Links libmaldjupp.a: from the folder that MALDJUPP_LIB_DIR names, else from where `rt staticlib maldjupp` writes it.
+//! Links libmaldjupp.a: from the folder that MALDJUPP_LIB_DIR names, else from where `tools/library maldjupp` writes it.
 use std::{env, path::PathBuf, process::exit};
 
 const NAMED: &str = "MALDJUPP_LIB_DIR";
@@ -11,7 +11,7 @@ fn main() {
     println!("cargo:rerun-if-changed={}", library.display());
     if !library.is_file() {
         eprintln!("There is no {}.", library.display());
-        eprintln!("Run `rt staticlib maldjupp` at the top of the repository, or set {NAMED} to the folder that holds libmaldjupp.a.");
+        eprintln!("Run `tools/library maldjupp` at the top of the repository, or set {NAMED} to the folder that holds libmaldjupp.a.");
         exit(1);
     }
     println!("cargo:rustc-link-search=native={}", folder.display());

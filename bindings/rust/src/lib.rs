@@ -50,7 +50,7 @@
 //!
 //! A panel takes the box of a patch pixel by pixel, through the eight registers of a [`Panel`]; [`Panel::pixels`] is an iterator over them.
 //!
-//! The library is found by the build script: in the folder that `MALDJUPP_LIB_DIR` names, else where `rt staticlib maldjupp` writes it.
+//! The library is found by the build script: in the folder that `MALDJUPP_LIB_DIR` names, else where `tools/library maldjupp` writes it.
 #![deny(unsafe_code)]
 #![warn(missing_docs)]
 

@@ -2,8 +2,10 @@
 #![tactic(auto)]
 
 ghost use Rattle.std.specs.Prelude.{◌≡◌, length};
+ghost use Rattle.std.specs.Io.{ReadsAtMost};
 
-use libc::{STDIN_FILENO, STDOUT_FILENO};
+use std::io;
+use std::io::Read;
 use text::text;
 
 // One byte more than the longest sheet has, so that a longer one is seen to be too long.
@@ -34,12 +36,27 @@ fn letters() -> [u8; 147456]
     [0; 147456]
 }
 
-fn main() {
+// Reads until buf is full or the input ends, and returns how many bytes it put at the start of buf.
+fn read_full(input: &mut impl Read, buf: &mut [u8]) -> io::Result<usize>
+    ensures { ReadsAtMost result buf.new }
+{
+    let mut done = 0;
+    while done < buf.len() {
+        let n = input.read(&mut buf[done..])?;
+        if n == 0 {
+            break;
+        }
+        done += n;
+    }
+    Ok(done)
+}
+
+fn main(rt: HostRuntime) -> io::Result<()> {
     let mut space = bytes();
-    let n = io::read_full(STDIN_FILENO, &mut space);
+    let n = read_full(&mut rt.stdin(), &mut space)?;
     let mut px = pixels();
     let mut scratch = words();
     let mut out = letters();
     let k = text(&space[..n], &mut px, &mut scratch, &mut out);
-    io::write_all(STDOUT_FILENO, &out[..k]);
+    rt.write_all(&out[..k])
 }

@@ -3,9 +3,13 @@
 #![tactic(auto)]
 
 ghost use Rattle.std.specs.Prelude.{◌≡◌, length};
-ghost use Rattle.io.specs.Counts.{IsPrefixLen};
+ghost use Rattle.std.specs.Io.{ReadsAtMost};
 
 use leaves::{ALL, Tally, count};
+use std::fs::File;
+use std::io::Read;
+use std::rt::{Env, Files};
+use std::{io, str};
 
 // Zeros, as many as any stored file has bytes.
 fn buffer() -> [u8; 420000]
@@ -14,29 +18,44 @@ fn buffer() -> [u8; 420000]
     [0; 420000]
 }
 
-// Reads a file; no bytes where it is missing.
-fn read(name: &[u8], buf: &mut [u8]) -> usize
-    ensures { IsPrefixLen result buf.new }
+// Reads until buf is full or the input ends, and returns how many bytes it put at the start of buf.
+fn read_full(input: &mut impl Read, buf: &mut [u8]) -> io::Result<usize>
+    ensures { ReadsAtMost result buf.new }
 {
-    let fd = os::open_read(name);
-    let n = io::read_full(fd, buf);
-    libc::close(fd);
-    n
+    let mut done = 0;
+    while done < buf.len() {
+        let n = input.read(&mut buf[done..])?;
+        if n == 0 {
+            break;
+        }
+        done += n;
+    }
+    Ok(done)
 }
 
-fn print(t: Tally) {
-    io::write_all(1, b" ");
-    io::print_decimal(1, t.ran as u64);
-    io::write_all(1, b" cases, ");
-    io::print_decimal(1, t.differ as u64);
-    io::write_all(1, b" differ\n");
+// Reads a file; no bytes where it is missing, or where its name is no text.
+fn read(rt: &impl Files, name: &[u8], buf: &mut [u8]) -> io::Result<usize>
+    ensures { ReadsAtMost result buf.new }
+{
+    let Ok(path) = str::from_utf8(name) else {
+        return Ok(0);
+    };
+    match File::open(rt, path) {
+        Ok(mut file) => read_full(&mut file, buf),
+        Err(_) => Ok(0),
+    }
 }
 
-fn line(name: &[u8], f: u32, t: Tally) {
-    io::write_all(1, name);
-    io::write_all(1, b" ");
-    io::print_decimal(1, f as u64);
-    print(t);
+fn print(rt: &impl Print, t: Tally) -> io::Result<()> {
+    let ran = t.ran;
+    let differ = t.differ;
+    println!(rt; " {ran} cases, {differ} differ")
+}
+
+fn line(rt: &impl Print, name: &[u8], f: u32, t: Tally) -> io::Result<()> {
+    rt.write_all(name)?;
+    print!(rt; " {f}")?;
+    print(rt, t)
 }
 
 // How many functions an area has.
@@ -54,39 +73,41 @@ fn functions(area: u32) -> u32 {
 }
 
 // A line for each function of an area.
-fn lines(name: &[u8], bytes: &[u8], area: u32) {
+fn lines(rt: &impl Print, name: &[u8], bytes: &[u8], area: u32) -> io::Result<()> {
     for f in 1..=functions(area) {
-        line(name, f, count(bytes, area, f));
+        line(rt, name, f, count(bytes, area, f))?;
     }
+    Ok(())
 }
 
 // A line for all cases of an area.
-fn total(name: &[u8], bytes: &[u8], area: u32) {
-    io::write_all(1, name);
-    print(count(bytes, area, ALL));
+fn total(rt: &impl Print, name: &[u8], bytes: &[u8], area: u32) -> io::Result<()> {
+    rt.write_all(name)?;
+    print(rt, count(bytes, area, ALL))
 }
 
-fn replay(name: &[u8], buf: &mut [u8], area: u32) {
-    let n = read(name, buf);
+fn replay(rt: &(impl Files + Print), name: &[u8], buf: &mut [u8], area: u32) -> io::Result<()> {
+    let n = read(rt, name, buf)?;
     let bytes = &buf[..n];
-    lines(name, bytes, area);
-    total(name, bytes, area);
+    lines(rt, name, bytes, area)?;
+    total(rt, name, bytes, area)
 }
 
 // Replays the area whose file the next argument names.
-fn replay_next(buf: &mut [u8], area: u32) {
+fn replay_next(rt: &(impl Env + Files + Print), buf: &mut [u8], area: u32) -> io::Result<()> {
     let mut name = [0; 16];
-    let n = os::arg(area as usize + 1, &mut name);
-    replay(&name[..n], buf, area);
+    let n = rt.arg(area as usize + 1, &mut name).unwrap_or(0);
+    replay(rt, &name[..n], buf, area)
 }
 
-fn replay_all(buf: &mut [u8]) {
+fn replay_all(rt: &(impl Env + Files + Print), buf: &mut [u8]) -> io::Result<()> {
     for area in 0..10 {
-        replay_next(buf, area);
+        replay_next(rt, buf, area)?;
     }
+    Ok(())
 }
 
-fn main() {
+fn main(rt: HostRuntime) -> io::Result<()> {
     let mut buf = buffer();
-    replay_all(&mut buf);
+    replay_all(&rt, &mut buf)
 }

@@ -5,7 +5,7 @@ fn main() {
     let folder = Path::new(env!("CARGO_MANIFEST_DIR")).join("../../../target/staticlib");
     let library = folder.join("libmaldjupp.a");
     println!("cargo:rerun-if-changed={}", library.display());
-    assert!(library.exists(), "{} is missing: run `rt staticlib maldjupp` first", library.display());
+    assert!(library.exists(), "{} is missing: run `tools/library maldjupp` first", library.display());
     println!("cargo:rustc-link-search=native={}", folder.display());
     println!("cargo:rustc-link-lib=static=maldjupp");
 }

@@ -5,7 +5,7 @@ fn main() {
     let folder = Path::new(env!("CARGO_MANIFEST_DIR")).join("../../../target/staticlib");
     let library = folder.join("libleaves.a");
     println!("cargo:rerun-if-changed={}", library.display());
-    assert!(library.exists(), "{} is missing: run `rt staticlib leaves` first", library.display());
+    assert!(library.exists(), "{} is missing: run `tools/library leaves` first", library.display());
     println!("cargo:rustc-link-search=native={}", folder.display());
     println!("cargo:rustc-link-lib=static=leaves");
 }
