@@ -305,10 +305,10 @@ join_none b = refl
 
 -- the smallest box around those that f gives of a list
 module _ {A : Type 0} (f : A → IRect) where
-  all_wider : (wide narrow : IRect) (l : List A) → Holds wide narrow → HoldsAll narrow f l → HoldsAll wide f l
+  all_wider : (large small : IRect) (l : List A) → Holds large small → HoldsAll small f l → HoldsAll large f l
   unfolding HoldsAll
-  all_wider wide narrow [] h e = tt
-  all_wider wide narrow (a ∷ l) h e = (holds_trans h e.0, all_wider wide narrow l h e.1)
+  all_wider large small [] h e = tt
+  all_wider large small (a ∷ l) h e = (holds_trans h e.0, all_wider large small l h e.1)
 
   join_around : (l : List A) → HoldsAll (join_all f l) f l
   unfolding join_all HoldsAll

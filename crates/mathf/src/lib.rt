@@ -1,5 +1,5 @@
 // The canvas's small layer of f32 functions. Each contract names a definition over the logic's account
-// of IEEE 754 (lib.Ieee), where a float is `nan`, an infinity or a signed number `fin s m e`.
+// of IEEE 754 (Rattle.std.specs.Float.Ieee), where a float is `nan`, an infinity or a signed number `fin s m e`.
 #![tactic(auto)]
 
 pub mod convert;
