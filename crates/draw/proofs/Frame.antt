@@ -19,11 +19,10 @@ use lib.Seq.{ext_get_or}
 use borrow.Author.Tests.{leb-true, eqb-true, eq-eqb, lt-ltb, le-ltb, le-leb}
 use Rattle.geom.proofs.Bools.{and_left, and_right}
 use Rattle.geom.proofs.Refusals.{passed, then_open}
-use Rattle.draw.specs.Draw.{onto}
 use Rattle.draw.specs.Frame.{pitch_ok, pitch_number, frame_number, framed}
 use Rattle.draw.specs.Areas.{within, in_area, area, drawn_in}
 use Rattle.draw.proofs.Onto.{length_onto, get_d_onto, onto_is}
-use Rattle.draw.proofs.Rows.{within_in, within_above, drawn_at, length_drawn}
+use Rattle.draw.proofs.Rows.{within_in, drawn_at, length_drawn}
 
 -- 15 comes before 8: it is given whatever the length of px is
 pub fifteen_first : (w h pitch n : ℕ) → pitch_number w pitch ≡ 15 → frame_number w h pitch n ≡ 15

@@ -8,7 +8,7 @@ use native.Mathlib.Omega.{arith}
 use borrow.Author.Tests.{ltb-true, ltb-false, eqb-false, le-leb, lt-ltb, le-ltb}
 use lib.Dec.{ltb, eqb}
 use lib.IntN.{ℤ, pos}
-use lib.ListN.{length, length-set, get_or-replicate}
+use lib.ListN.{length-set, get_or-replicate}
 use lib.Seq.{get_or-set_same, get_or-set_other}
 use Rattle.geom.proofs.Bools.{split}
 use Rattle.geom.proofs.Int.{le_le_z}
@@ -16,7 +16,7 @@ use Rattle.geom.specs.declared.IRect.{IRect}
 use Rattle.geom.specs.Box.{box_of, empty, no_box}
 use Rattle.gfx.proofs.Places.{places_at, places_all}
 use Rattle.gfx.proofs.Valid.{clip_meet, valid_of_lem, of_valid, valid_depth}
-use Rattle.gfx.specs.State.{in_canvas, range_in, side_ok, clip_ok, both_zero, four_zeros, saved_at, place_ok, valid_of, fresh_of, pushed, unsaved, popped}
+use Rattle.gfx.specs.State.{in_canvas, range_in, side_ok, clip_ok, both_zero, four_zeros, saved_at, place_ok, fresh_of, pushed, unsaved, popped}
 use Rattle.geom.specs.Plane.{outer_of}
 use Rattle.geom.specs.declared.Rect.{Rect}
 use Rattle.geom.specs.Int.{up}

@@ -15,7 +15,6 @@ use Rattle.gfx.specs.State.{clip_ok}
 use Rattle.gfx.proofs.Valid.{clip_of}
 use Rattle.sheet.specs.Check.{width_of, height_of, verdict, sheet_check}
 use Rattle.items.specs.Format.{kind, sheet_of, reading, format}
-use Rattle.redraw.specs.Sheet as redraw
 use Rattle.redraw.specs.Sheet.{Reading, read, Change, other, shapes, reaches, few, canvas, same_header, refuses, draws, lent_number, lent, patch_of, patching}
 use Rattle.compare.specs.Compare.{found, change_number, change_box}
 use Rattle.compare.proofs.Changes.{patch_by_lem}

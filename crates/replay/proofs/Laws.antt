@@ -14,7 +14,7 @@ use borrow.Author.Tests.{leb-true, leb-false}
 use Rattle.geom.proofs.Bools.{split}
 use Rattle.redraw.specs.declared.Answer.{Answer}
 use Rattle.redraw.specs.declared.Reply.{Reply}
-use Rattle.redraw.specs.Sheet.{Outcome, painting, answer, accepted}
+use Rattle.redraw.specs.Sheet.{Outcome, painting, accepted}
 use Rattle.redraw.specs.Calls.{Shown, Call, Does, Painted, Patched, kept_after}
 use Rattle.redraw.proofs.Lists.{Numbered, zero_accepted, other_refused, patch_numbered, paint_numbered, length_pixels, length_cleared, patch_enough, shown_first, shown_after}
 use Rattle.items.specs.Format.{kind, format, zero_word}

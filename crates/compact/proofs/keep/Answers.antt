@@ -1,5 +1,4 @@
 -- `compact::keep` meets its contract. The items chosen so far, and then those that are left and stay, are all that stay. Assumes nothing.
-use Prim.Native.Nat.{◌-◌}
 use mathlib.Core.Path.{sym, ◌∙◌}
 use native.Mathlib.Omega.{arith}
 use Rattle.compact.proofs.Walks.{few_items, room, keeping_first, keeping_shape, keeping_other, keeping_end}

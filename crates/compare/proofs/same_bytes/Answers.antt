@@ -1,5 +1,4 @@
 -- `compare::same_bytes` meets its contract. What is known of the bytes so far, with those that are left, is what the whole is. Assumes nothing.
-use Prim.Native.Nat.{◌-◌}
 use mathlib.Core.Path.{refl, sym, ◌∙◌}
 use native.Mathlib.Omega.{arith}
 use Rattle.compare.proofs.Bytes.{lengths_differ, bytes_turn, bytes_done}

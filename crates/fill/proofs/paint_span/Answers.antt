@@ -1,6 +1,5 @@
 -- `fill::paint_span` meets its contract. The columns before x are drawn. Assumes nothing.
 use mathlib.Core.Path.{◌∙◌}
-use Prim.Native.Nat.{◌-◌}
 use native.Mathlib.Omega.{arith}
 use Rattle.draw.proofs.Loops.{row_start_lem, row_next, row_end, bit_most}
 use Rattle.fill.specs.Fill.{middle_ink}

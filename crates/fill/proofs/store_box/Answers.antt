@@ -1,5 +1,4 @@
 -- `fill::store_box` meets its contract. The rows before y are drawn. Assumes nothing.
-use Prim.Native.Nat.{◌-◌}
 use native.Mathlib.Omega.{arith}
 use Rattle.draw.proofs.Loops.{rows_start, rows_next, rows_end, row_fits}
 use Rattle.fill.proofs.store_box.Goals as goal

@@ -1,5 +1,4 @@
 -- `line::draw_lines` meets its contract. The lines from point i - 1 on, drawn on px as it is, give what all lines give from the start. Assumes nothing.
-use Prim.Native.Nat.{◌-◌}
 use native.Mathlib.Omega.{arith}
 use Rattle.line.proofs.Joints.{lines_begin, lines_next, lines_end}
 use Rattle.line.proofs.draw_lines.Goals as goal

@@ -1,6 +1,5 @@
 -- `line::segment_row` meets its contract. The columns before x are drawn. Assumes nothing.
 use mathlib.Core.Path.{◌≡◌, sym, ◌∙◌}
-use Prim.Native.Nat.{◌-◌}
 use native.Mathlib.Omega.{arith}
 use Rattle.color.proofs.Overs.{over_c_none}
 use Rattle.draw.proofs.Loops.{row_start_lem, row_next, row_pass, row_end, bit_most}

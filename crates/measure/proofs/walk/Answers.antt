@@ -1,5 +1,4 @@
 -- `measure::walk` meets its contract. What was taken so far, with what the items that are left take, is what the sheet takes. Assumes nothing.
-use Prim.Native.Nat.{◌-◌}
 use mathlib.Core.Path.{sym, ap, ◌∙◌}
 use native.Mathlib.Omega.{arith}
 use Rattle.measure.specs.Walked.{cells_of}

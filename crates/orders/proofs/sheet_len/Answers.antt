@@ -1,5 +1,4 @@
 -- `orders::sheet_len` meets its contract. Assumes nothing.
-use Prim.Native.Nat.{◌-◌}
 use mathlib.Core.List.{map}
 use mathlib.Core.Path.{refl}
 use native.Mathlib.Omega.{arith}

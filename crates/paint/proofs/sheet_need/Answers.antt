@@ -1,5 +1,5 @@
 -- `paint::sheet_need` meets its contract. The greatest need so far and of what is left is the whole. Assumes nothing.
-use Prim.Native.Nat.{◌-◌, max}
+use Prim.Native.Nat.{max}
 use mathlib.Core.Path.{sym, ap, ◌∙◌}
 use native.Mathlib.Nat.{sub-zero}
 use native.Mathlib.Omega.{arith}

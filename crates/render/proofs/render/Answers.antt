@@ -1,5 +1,5 @@
 -- `render::render` meets its contract: what is drawn so far, drawn on, is the whole. Assumes nothing.
-use Prim.Native.Nat.{◌-◌, ◌≤◌}
+use Prim.Native.Nat.{◌≤◌}
 use mathlib.Core.Path.{◌≡◌, sym, ◌∙◌}
 use native.Mathlib.Omega.{arith}
 use Rattle.sheet.specs.Check.{count_of}

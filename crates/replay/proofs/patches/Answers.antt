@@ -1,6 +1,5 @@
 -- `replay::patches` meets its contract. The loop's invariant, `Running`: what is left to do, done from here, gives what doing all
 -- gives from the start. Assumes nothing.
-use Prim.Native.Nat.{◌-◌}
 use Rattle.replay.proofs.Laws.{running_first, running_next, running_done}
 use Rattle.replay.proofs.patches.Goals as goal
 

@@ -1,8 +1,6 @@
 -- `shadow::columns` meets its contract. The columns before x are filled. Assumes nothing.
 use native.Mathlib.Omega.{arith}
 use mathlib.Core.Path.{refl}
-use Prim.Native.Nat.{◌-◌}
-use Rattle.shadow.specs.Spans.{column_alpha}
 use Rattle.draw.proofs.Held.{held_start, held_next, held_end}
 use Rattle.shadow.proofs.columns.Goals as goal
 

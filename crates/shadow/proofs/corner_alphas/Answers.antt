@@ -1,6 +1,5 @@
 -- `shadow::corner_alphas` meets its contract. The columns before k are filled. Assumes nothing.
 use mathlib.Core.Path.{refl, ◌∙◌}
-use Prim.Native.Nat.{◌-◌}
 use native.Mathlib.Omega.{arith}
 use Rattle.shadow.specs.Spans.{side_alpha}
 use Rattle.draw.proofs.Held.{held_start, held_next, held_end}

@@ -1,5 +1,4 @@
 -- `shadow::shade_box` meets its contract. The rows before y are drawn. Assumes nothing.
-use Prim.Native.Nat.{◌-◌}
 use native.Mathlib.Omega.{arith}
 use Rattle.shadow.specs.Shadow.{shade_ink}
 use Rattle.draw.proofs.Loops.{rows_start, rows_next, rows_end, row_fits}

@@ -1,6 +1,5 @@
 -- `shadow::straight_span` meets its contract. The columns before x are drawn. Assumes nothing.
 use native.Mathlib.Omega.{arith}
-use Prim.Native.Nat.{◌-◌}
 use mathlib.Core.Path.{◌∙◌}
 use Rattle.draw.proofs.Loops.{row_start_lem, row_next, row_end, bit_most}
 use Rattle.draw.specs.Held.{Holds}

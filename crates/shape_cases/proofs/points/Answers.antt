@@ -1,5 +1,5 @@
 -- `shape_cases::points` is safe and ends, and gives 130 floats. Assumes nothing.
-use Rattle.std.proofs.Common.{◌-◌, arith, length-set}
+use Rattle.std.proofs.Common.{arith, length-set}
 use Rattle.shape_cases.proofs.points.Goals as goal
 
 pub loop-i-init : goal.loop-i-init

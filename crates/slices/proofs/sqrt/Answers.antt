@@ -1,6 +1,5 @@
 -- `slices::sqrt` meets its contract. After i turns the slice is `turned` up to i. Assumes nothing.
 use mathlib.Core.Path.{refl, ap, ◌∙◌}
-use Prim.Native.Nat.{◌-◌}
 use native.Mathlib.Omega.{arith}
 use Rattle.mathf.specs.Root.{sqrt_of}
 use Rattle.slices.proofs.Turned.{begin, again, here, done}

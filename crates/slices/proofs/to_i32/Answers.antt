@@ -1,6 +1,5 @@
 -- `slices::to_i32` meets its contract. After i turns the slice is `turned` up to i. Assumes nothing.
 use mathlib.Core.Path.{refl, ◌∙◌}
-use Prim.Native.Nat.{◌-◌}
 use Rattle.mathf.specs.Convert.{to_i32}
 use native.Mathlib.Omega.{arith}
 use Rattle.geom.proofs.Signed.{kept}

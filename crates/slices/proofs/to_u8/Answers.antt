@@ -1,6 +1,5 @@
 -- `slices::to_u8` meets its contract. After i turns the slice is `turned` up to i. Assumes nothing.
 use mathlib.Core.Path.{refl}
-use Prim.Native.Nat.{◌-◌}
 use Rattle.mathf.specs.Convert.{to_u8}
 use native.Mathlib.Omega.{arith}
 use Rattle.slices.proofs.Turned.{begin, again, done_each, none_each}

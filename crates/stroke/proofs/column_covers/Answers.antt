@@ -1,9 +1,7 @@
 -- `stroke::column_covers` meets its contract. The columns before x are filled. Assumes nothing.
 use mathlib.Core.Path.{refl}
-use Prim.Native.Nat.{◌-◌}
 use native.Mathlib.Omega.{arith}
 use Rattle.draw.proofs.Held.{held_start, held_next, held_end}
-use Rattle.stroke.specs.Rows.{column_cover}
 use Rattle.stroke.proofs.column_covers.Goals as goal
 
 pub loop-x-init : goal.loop-x-init

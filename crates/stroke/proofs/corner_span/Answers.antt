@@ -1,6 +1,5 @@
 -- `stroke::corner_span` meets its contract. The columns before x are drawn. Assumes nothing.
 use mathlib.Core.Path.{refl}
-use Prim.Native.Nat.{◌-◌}
 use native.Mathlib.Omega.{arith}
 use Rattle.draw.proofs.Loops.{row_start_lem, row_span, row_end}
 use Rattle.stroke.specs.Stroke.{band_ink}

@@ -1,6 +1,5 @@
 -- `stroke::covers` meets its contract. The columns before k are filled. Assumes nothing.
 use mathlib.Core.Path.{refl, ◌∙◌}
-use Prim.Native.Nat.{◌-◌}
 use native.Mathlib.Omega.{arith}
 use lib.ListN.{length-set}
 use Rattle.draw.proofs.Held.{held_part}

@@ -1,6 +1,5 @@
 -- `stroke::level_columns` meets its contract. The columns before x are level. Assumes nothing.
 use native.Mathlib.Omega.{arith}
-use Prim.Native.Nat.{◌-◌}
 use Rattle.stroke.proofs.Levels.{level_none, level_more, level_upto}
 use Rattle.stroke.proofs.level_columns.Goals as goal
 

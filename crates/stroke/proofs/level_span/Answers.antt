@@ -1,5 +1,4 @@
 -- `stroke::level_span` meets its contract. The columns before x are drawn. Assumes nothing.
-use Prim.Native.Nat.{◌-◌}
 use native.Mathlib.Omega.{arith}
 use Rattle.draw.proofs.Loops.{row_start_lem, row_next, row_end, bit_most}
 use Rattle.stroke.specs.Rows.{level_ink}

@@ -1,5 +1,4 @@
 -- `stroke::outline_box` meets its contract. The rows before y are drawn. Assumes nothing.
-use Prim.Native.Nat.{◌-◌}
 use native.Mathlib.Omega.{arith}
 use Rattle.stroke.specs.Stroke.{outline_ink}
 use Rattle.draw.proofs.Loops.{rows_start, rows_next, rows_end, row_fits}

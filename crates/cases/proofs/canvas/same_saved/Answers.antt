@@ -1,5 +1,5 @@
 -- `cases::canvas::same_saved` is safe and ends. Assumes nothing.
-use Rattle.std.proofs.Common.{◌-◌, arith}
+use Rattle.std.proofs.Common.{arith}
 use Rattle.cases.proofs.canvas.same_saved.Goals as goal
 
 pub loop-i-init : goal.loop-i-init

@@ -1,5 +1,5 @@
 -- `cases::canvas::saved` is safe and ends. Assumes nothing.
-use Rattle.std.proofs.Common.{◌-◌, arith, length-set}
+use Rattle.std.proofs.Common.{arith, length-set}
 use Rattle.cases.proofs.canvas.saved.Goals as goal
 
 pub none_saved-out-requires : goal.none_saved-out-requires

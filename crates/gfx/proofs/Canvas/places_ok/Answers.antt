@@ -1,8 +1,6 @@
 -- `gfx::Canvas::places_ok` meets its contract. Assumes nothing.
 use borrow.Author.Rules.{rules}
 use mathlib.Core.Path.{◌≡◌, ◌∙◌, sym}
-use mathlib.Core.Bool.{true}
-use Prim.Native.Nat.{◌-◌}
 use native.Mathlib.Omega.{arith}
 use Rattle.gfx.proofs.Places.{places_none, places_more, places_fail}
 use Rattle.geom.specs.Box.{no_box}

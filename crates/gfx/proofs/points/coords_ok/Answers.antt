@@ -1,6 +1,5 @@
 -- `gfx::points::coords_ok` meets its contract. Assumes nothing.
 use mathlib.Core.Path.{refl, ◌∙◌, sym}
-use Prim.Native.Nat.{◌-◌}
 use native.Mathlib.Omega.{arith}
 use lib.Ieee.{nan}
 use Rattle.gfx.proofs.Coords.{coords_turn, coords_done}

@@ -1,5 +1,5 @@
 -- `leaves::clip_orders::holds` is safe and ends. Assumes nothing.
-use Rattle.std.proofs.Common.{◌-◌, arith}
+use Rattle.std.proofs.Common.{arith}
 use Rattle.leaves.proofs.clip_orders.holds.Goals as goal
 
 pub loop-i-init : goal.loop-i-init

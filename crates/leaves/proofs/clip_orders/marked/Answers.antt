@@ -1,5 +1,5 @@
 -- `leaves::clip_orders::marked` is safe and ends, and gives 360 bytes. Assumes nothing.
-use Rattle.std.proofs.Common.{◌-◌, arith, length-set}
+use Rattle.std.proofs.Common.{arith, length-set}
 use Rattle.leaves.proofs.clip_orders.marked.Goals as goal
 
 pub loop-i-init : goal.loop-i-init

@@ -1,5 +1,5 @@
 -- `leaves::counting::count` is safe and ends: no count is above the number of cases passed. Assumes nothing.
-use Rattle.std.proofs.Common.{◌-◌, arith}
+use Rattle.std.proofs.Common.{arith}
 use Rattle.leaves.proofs.counting.count.Goals as goal
 
 pub word-n-requires : goal.word-n-requires

@@ -1,5 +1,5 @@
 -- `leaves::lent::fill` is safe and ends. Assumes nothing.
-use Rattle.std.proofs.Common.{◌-◌, arith, length-set}
+use Rattle.std.proofs.Common.{arith, length-set}
 use Rattle.leaves.proofs.lent.fill.Goals as goal
 
 pub word-v-requires : goal.word-v-requires

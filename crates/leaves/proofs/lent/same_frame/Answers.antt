@@ -1,5 +1,5 @@
 -- `leaves::lent::same_frame` is safe and ends. Assumes nothing.
-use Rattle.std.proofs.Common.{◌-◌, arith}
+use Rattle.std.proofs.Common.{arith}
 use Rattle.leaves.proofs.lent.same_frame.Goals as goal
 
 pub word-v-requires : goal.word-v-requires

@@ -1,5 +1,5 @@
 -- `leaves::lent::swept` is safe and ends. Assumes nothing.
-use Rattle.std.proofs.Common.{◌-◌, arith}
+use Rattle.std.proofs.Common.{arith}
 use Rattle.leaves.proofs.lent.swept.Goals as goal
 
 pub loop-i-init : goal.loop-i-init

@@ -1,5 +1,4 @@
 -- `poly::rows::poly_rows` meets its contract. Assumes nothing.
-use Prim.Native.Nat.{◌-◌}
 use native.Mathlib.Omega.{arith}
 use Rattle.draw.proofs.Loops.{rows_start, row_fits, rows_next, rows_end}
 use Rattle.poly.specs.Poly.{ink_in}

@@ -1,6 +1,5 @@
 -- `poly::rows::run_sum` meets its contract. The first k words are in the sum. Assumes nothing.
 use mathlib.Core.Path.{refl, sym}
-use Prim.Native.Nat.{◌-◌}
 use native.Mathlib.Nat.{le_antisymm}
 use native.Mathlib.Omega.{arith}
 use Rattle.poly.specs.Poly.{run_sum}
