@@ -1,9 +1,9 @@
 -- The states along the items of an accepted sheet: sound before each item, with as many clips saved as the check counts and with redraw's clips.
 -- Assumes nothing.
---     stands-first, clips-first   before the first item, with a first clip inside the canvas
+--     stands_first, clips_first   before the first item, with a first clip inside the canvas
 --     whole                       the whole canvas is such a clip
---     stands-start, clips-start   .. and so, painted from nothing
---     stands-next, clips-next     after one item more
+--     stands_start, clips_start   .. and so, painted from nothing
+--     stands_next, clips_next     after one item more
 use Prim.Native.Nat.{ℕ, ◌+◌, ◌<◌}
 use mathlib.Core.Path.{◌≡◌, refl, sym, ap, ◌∙◌}
 use mathlib.Core.Bool.{true, or-true}
@@ -64,9 +64,9 @@ module _ (s : List ℕ) (pitch : ℕ) where
       unfolding state_in place_ok four_zeros both_zero no_box
       place i l = rw (le-ltb i 0 (omega arith), get_or-replicate 16 i no_box no_box l)
 
-      sound-first : Sound start
+      sound_first : Sound start
       unfolding state_in
-      sound-first =
+      sound_first =
           record {
             valid =
                 of_valid start
@@ -81,9 +81,9 @@ module _ (s : List ℕ) (pitch : ℕ) where
             sized = refl;
           }
 
-      pub stands-first : Standing 0 start
+      pub stands_first : Standing 0 start
       unfolding state_in depth_before
-      stands-first = record { sound = sound-first; depth = refl; wide = refl; high = refl; row = refl }
+      stands_first = record { sound = sound_first; depth = refl; wide = refl; high = refl; row = refl }
 
 -- the whole canvas is a clip inside it
 module _ (s : List ℕ) where
@@ -101,7 +101,7 @@ module _ (s : List ℕ) where
   clips_start = clips_first s (width_of s) (canvas (sheet_of s))
 
   pub stands_start : sheet_check s ≡ verdict 0 0 → Standing s (width_of s) 0 (start_of s)
-  stands_start e = stands-first s (width_of s) (canvas (sheet_of s)) e (own_rows e) whole
+  stands_start e = stands_first s (width_of s) (canvas (sheet_of s)) e (own_rows e) whole
 
 module _ (s : List ℕ) (pitch : ℕ) where
   module _ (e : sheet_check s ≡ verdict 0 0) (k : ℕ) (h : k < count_of s) (c : Canvas) (st : Standing s pitch k c) where

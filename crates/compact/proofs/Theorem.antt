@@ -16,7 +16,7 @@ use Rattle.redraw.specs.Sheet.{Sheet, read, canvas, painting, accepted, fresh}
 use Rattle.redraw.specs.Calls.{Painted}
 use Rattle.redraw.specs.Shed.{shed, shed_of}
 use Rattle.redraw.proofs.Lists.{zero_accepted, paint_numbered, always}
-use Rattle.redraw.proofs.Shed.{shed_by, shed_fresh, shed_twice, shed_served, shed-same, shed_shown}
+use Rattle.redraw.proofs.Shed.{shed_by, shed_fresh, shed_twice, shed_served, shed_same, shed_shown}
 use Rattle.items.specs.Format.{kind, bytes_of, item_need, needs, format, zero_word, sheet_of, reading}
 use Rattle.items.proofs.Lawful.{within, lawful}
 use Rattle.items.proofs.Readings.{reads_accepted}
@@ -61,7 +61,7 @@ module _ (s : List ℕ) (e : sheet_check s ≡ verdict 0 0) where
       record {
         from_nothing = ap (λ (q : Sheet (List ℕ)). fresh kind q) (sheet_kept s e) ∙ shed_fresh kind (sheet_of s);
         served = shed_served format (sheet_of s) s t whole without less;
-        same = λ pitch px u v a b px' qx u' v' p q y z. shed-same format (sheet_of s) s t whole without within pitch px zero_word u v a b px' qx u' v' p q
+        same = λ pitch px u v a b px' qx u' v' p q y z. shed_same format (sheet_of s) s t whole without within pitch px zero_word u v a b px' qx u' v' p q
             (painted s pitch px u a px' u' p y) (painted t pitch px v b qx v' q z);
         goes_on = λ pitch before px calls h f.
             always zero_word format lawful pitch before t px calls (shed_shown format (sheet_of s) s t whole without pitch before px h) f;

@@ -72,10 +72,10 @@ module _ (frame : IRect) where
           let e = join_assoc (join area (cut a)) (cut b) h ∙ join_assoc area (cut a) (join (cut b) h) in
           rw (n, e)
 
-      pub told-pair : (a b : List ℕ) (c : Change (List ℕ)) (both : Bool) → both ≡ is_shape (item_in a) && is_shape (item_in b) → both ≡ true
+      pub told_pair : (a b : List ℕ) (c : Change (List ℕ)) (both : Bool) → both ≡ is_shape (item_in a) && is_shape (item_in b) → both ≡ true
           → told_after frame seen area (both_shapes u u (item_in a) (item_in b) c) ≡ told_after frame (seen + 1) (join (join area (cut a)) (cut b)) c
       unfolding both_shapes
-      told-pair a b c both s t =
+      told_pair a b c both s t =
           let e = sym s ∙ t in
           rw (shape_own a (item_of a) (and_left _ (is_shape (item_in b)) e), shape_own b (item_of b) (and_right (is_shape (item_in a)) _ e)) (pair a b c)
 

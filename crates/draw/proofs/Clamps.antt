@@ -1,9 +1,9 @@
 -- The Rust brings the ends of a middle to the columns x0 up to x1 of a row before it uses them, and the definitions of fill,
 -- stroke and shadow leave that out. It changes no pixel: of the row's own columns the same lie between the ends, and those on
 -- both sides are treated alike.
---     clamped-columns    the first end brought to x0 up to x1, the second to those from there on: `fill_rrect`, `stroke_rrect`,
+--     clamped_columns    the first end brought to x0 up to x1, the second to those from there on: `fill_rrect`, `stroke_rrect`,
 --                        and a row of `shadow_rrect` that is not straight
---     crossed-columns    each end brought to x0 up to x1, and where they meet or cross, one column for both: a straight row of
+--     crossed_columns    each end brought to x0 up to x1, and where they meet or cross, one column for both: a straight row of
 --                        `shadow_rrect`
 -- Assumes nothing.
 use mathlib.Core.Path.{◌≡◌, refl, sym, ap, ◌∙◌}

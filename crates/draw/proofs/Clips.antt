@@ -1,10 +1,10 @@
 -- Drawing under a clip is drawing in an area.
---     in-area       a box holds the pixels that its area holds
---     in-columns    signed ends of a range of columns, as natural ones
---     in-clip       a pixel is in what the clip lets through where it is in the reach and in the clip
---     drawn-clip    a shape drawn under a clip is drawn in what the clip lets through
+--     in_area_lem       a box holds the pixels that its area holds
+--     in_columns_lem    signed ends of a range of columns, as natural ones
+--     in_clip       a pixel is in what the clip lets through where it is in the reach and in the clip
+--     drawn_clip    a shape drawn under a clip is drawn in what the clip lets through
 --     shape_at      one pixel of what a shape leaves
---     clip-fits     what a clip that is empty or inside the canvas lets through lies within px
+--     clip_fits     what a clip that is empty or inside the canvas lets through lies within px
 -- Assumes nothing.
 use mathlib.Core.Path.{◌≡◌, refl, sym, ◌∙◌}
 use mathlib.Core.Bool.{Bool, true, false, cond, ◌&&◌}

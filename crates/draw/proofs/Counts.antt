@@ -1,9 +1,9 @@
 -- Laws of `differ`, the count of places at which two lists differ.
 --     differ_same    a list differs from itself nowhere
---     differ-one     a store differs at its place at most
---     differ-join    of two changes, of which no place has both, the counts add up
---     differ-most    no more than there are places, and at one place no more than 1 (one-most)
---     differ-none    lists that differ nowhere are equal
+--     differ_one     a store differs at its place at most
+--     differ_join    of two changes, of which no place has both, the counts add up
+--     differ_most    no more than there are places, and at one place no more than 1 (one_most)
+--     differ_none    lists that differ nowhere are equal
 -- Assumes nothing.
 use mathlib.Core.Path.{◌≡◌, refl, sym}
 use mathlib.Core.List.{List, [], ◌∷◌}

@@ -1,11 +1,11 @@
 -- A canvas within a wider frame.
---     fifteen-first         the order of 15 and 8
---     pitch-of, in-pitch    a pitch that is not refused
---     frame-of, in_frame    .. and px in its rows
+--     fifteen_first         the order of 15 and 8
+--     pitch_of, in_pitch    a pitch that is not refused
+--     frame_of, in_frame    .. and px in its rows
 --     row_below             every word is in one of the rows
---     framed-area           the first w words of each row are the area of the canvas
---     framed-margin         a word past them is left
---     framed-whole          rows that are no longer than the canvas: every word
+--     framed_area           the first w words of each row are the area of the canvas
+--     framed_margin         a word past them is left
+--     framed_whole          rows that are no longer than the canvas: every word
 -- Assumes nothing.
 use mathlib.Core.Path.{◌≡◌, refl, sym, ap, ◌∙◌}
 use mathlib.Core.Bool.{Bool, true, false, cond, ◌&&◌}

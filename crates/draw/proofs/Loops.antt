@@ -1,16 +1,16 @@
 -- The invariants of the two loops that draw a box, and what each turn asks. `InRow` is for the loop through the columns of row y, and `InRows` for the loop through the rows.
 -- f is the shape's pixel function, px₀ the pixels as the loop began, px as they are, and n how many of them were altered.
---     row-start, rows_start     the loop begins
+--     row_start_lem, rows_start  the loop begins
 --     row_next                  the turn stores what f gives of the pixel, and counts it where that differs
---     row-pass                  the turn stores nothing, since f leaves the pixel
---     row-span                  a call drew a part of the row
---     row-three, row-clamped    a row whose parts three calls drew
---     clamped-order, three-fit  the parts stand in order, and their counts can be added
+--     row_pass                  the turn stores nothing, since f leaves the pixel
+--     row_span                  a call drew a part of the row
+--     row_three, row_clamped    a row whose parts three calls drew
+--     clamped_order, three_fit  the parts stand in order, and their counts can be added
 --     rows_next                 a call drew row y
---     row-end, rows_end         the loop is left
---     drew-as                   what is drawn, told otherwise
---     drew-none, drew-kept      nothing is drawn, and so nothing is counted
---     bit-most                  a turn counts 1 at most
+--     row_end, rows_end         the loop is left
+--     drew_as                   what is drawn, told otherwise
+--     drew_none, drew_kept      nothing is drawn, and so nothing is counted
+--     bit_most                  a turn counts 1 at most
 -- Assumes nothing.
 use mathlib.Core.Path.{◌≡◌, refl, sym, ap, ◌∙◌}
 use mathlib.Core.List.{List}

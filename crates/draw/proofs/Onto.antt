@@ -1,9 +1,9 @@
 -- Laws of `onto`, a pixel function put to the pixels at the places of a set.
---     length-onto, getD-onto     its length and its pixels
---     onto-none, onto-one        no place; one place, which a store fills
---     onto-join                  a set and then another, of which neither holds a place of the other
+--     length_onto, get_d_onto     its length and its pixels
+--     onto_none, onto_one        no place; one place, which a store fills
+--     onto_join                  a set and then another, of which neither holds a place of the other
 --     onto_same                  another function that agrees there
---     onto-count                 how many places a set and then another alter
+--     onto_count                 how many places a set and then another alter
 -- Assumes nothing.
 use mathlib.Core.Path.{◌≡◌, refl, sym, ap, ◌∙◌}
 use mathlib.Core.List.{List, [], ◌∷◌}

@@ -1,9 +1,9 @@
 -- Parts drawn one after the other are one shape.
---     reach-smallest   their reach is the smallest box around theirs
---     all-drawn        parts drawn under a clip, as the drawing of their reach and ink
---     one-drawn        one part alone, and its steps (one-alters)
---     alters-none      parts that take no step that alters leave every pixel
---     alters-most      no more steps than parts times pixels
+--     reach_smallest   their reach is the smallest box around theirs
+--     all_drawn        parts drawn under a clip, as the drawing of their reach and ink
+--     one_drawn        one part alone, and its steps (one_alters)
+--     alters_none      parts that take no step that alters leave every pixel
+--     alters_most      no more steps than parts times pixels
 -- Assumes nothing.
 use mathlib.Core.Path.{◌≡◌, refl, sym, ap, ◌∙◌}
 use mathlib.Core.Bool.{Bool, true, false, cond, ◌&&◌}

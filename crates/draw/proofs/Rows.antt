@@ -1,11 +1,11 @@
 -- Laws of `drawn_in`, by which a loop that goes through a box row by row, and through a row from the left, leaves `drawn_in` of the box.
---     length-drawn              the length
---     none-across, none-down    an empty box, as where such a loop begins
---     row-join                  a part of a row after the part on its left
+--     length_drawn              the length
+--     none_across, none_down    an empty box, as where such a loop begins
+--     row_join                  a part of a row after the part on its left
 --     rows_join                 rows after the rows above them
---     row_count, rows-count     how many pixels two such parts alter
---     drawn-same, row_same      another pixel function, which agrees in the box
---     drawn-at                  a pixel of what is drawn
+--     row_count, rows_count     how many pixels two such parts alter
+--     drawn_same, row_same      another pixel function, which agrees in the box
+--     drawn_at                  a pixel of what is drawn
 -- Assumes nothing.
 use mathlib.Core.Path.{◌≡◌, refl, sym, ap₂, ◌∙◌}
 use mathlib.Core.List.{List}

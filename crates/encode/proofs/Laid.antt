@@ -123,14 +123,14 @@ module _ (head : List ℕ) (its : List (List ℕ)) (eight : length head ≡ 8) w
 
   pub encoded_laid : (small : length (encoded head its) ≤ 60000) → Laid (encoded head its) small its 0 (12 + 4 * length its) (joined its)
   unfolding encoded
-  encoded_laid small = record { pairs_at = after-head; items_at = after-pairs; ends = sym encoded_length }
+  encoded_laid small = record { pairs_at = after_head; items_at = after_pairs; ends = sym encoded_length }
     where
-      after-head : drop 12 (head ++ rest) ≡ pairs (12 + 4 * length its) its ++ joined its
-      after-head = sym (drop-drop 4 8 (head ++ rest)) ∙ ap (drop 4) (drop_at head rest 8 eight)
+      after_head : drop 12 (head ++ rest) ≡ pairs (12 + 4 * length its) its ++ joined its
+      after_head = sym (drop-drop 4 8 (head ++ rest)) ∙ ap (drop 4) (drop_at head rest 8 eight)
 
-      after-pairs : drop (12 + 4 * length its) (head ++ rest) ≡ joined its
-      after-pairs =
-          sym (drop-drop (4 * length its) 12 (head ++ rest)) ∙ ap (drop (4 * length its)) after-head
+      after_pairs : drop (12 + 4 * length its) (head ++ rest) ≡ joined its
+      after_pairs =
+          sym (drop-drop (4 * length its) 12 (head ++ rest)) ∙ ap (drop (4 * length its)) after_head
           ∙ drop_at (pairs (12 + 4 * length its) its) (joined its) (4 * length its) (length_pairs (12 + 4 * length its) its)
 
   -- a sheet whose header and items are in order is accepted

@@ -1,10 +1,10 @@
 -- The parts of a row: where it is cut, and that rim, middle and rim make the row.
 --     cut_edge       an edge row has no middle
---     cut-between    any other row has its middle between its ends
---     parts-drawn    the three parts drawn are the row drawn
---     same-paint     a paint that agrees in the row
---     plain-drawn    a part of the middle under a colour of full alpha
---     clear-drawn    the same under a colour of alpha 0
+--     cut_between    any other row has its middle between its ends
+--     parts_drawn    the three parts drawn are the row drawn
+--     same_paint     a paint that agrees in the row
+--     plain_drawn    a part of the middle under a colour of full alpha
+--     clear_drawn    the same under a colour of alpha 0
 -- Assumes nothing.
 use mathlib.Core.Path.{◌≡◌, sym, ◌∙◌}
 use mathlib.Core.Bool.{Bool, true, false}

@@ -54,17 +54,17 @@ module _ (c : Canvas) (n : ℕ) where
         go false e = omega arith
 
     module _ (b : Brush) (words : ℕ) where
-      pub points-kind-over : kind_ok b ≡ false → points_kind_number c n pts ≡ points_brush_number c n pts b words
+      pub points_kind_over : kind_ok b ≡ false → points_kind_number c n pts ≡ points_brush_number c n pts b words
       unfolding points_kind_number points_brush_number
-      points-kind-over e = rw e
+      points_kind_over e = rw e
 
       -- what is given stays
-      pub points-kind-stays : {A : Type 0} (next given : A) → kind_ok b ≡ false → given ≡ cond (eqb (points_brush_number c n pts b words) 0) next given
-      points-kind-stays next given e = rw (← points-kind-over e, ne_eqb (points_kind_number c n pts) 0 points_kind_some)
+      pub points_kind_stays : {A : Type 0} (next given : A) → kind_ok b ≡ false → given ≡ cond (eqb (points_brush_number c n pts b words) 0) next given
+      points_kind_stays next given e = rw (← points_kind_over e, ne_eqb (points_kind_number c n pts) 0 points_kind_some)
 
-      pub points-kind-fits : kind_ok b ≡ true → poly_number c n pts (paint_of b) words ≡ points_brush_number c n pts b words
+      pub points_kind_fits : kind_ok b ≡ true → poly_number c n pts (paint_of b) words ≡ points_brush_number c n pts b words
       unfolding poly_number points_number points_brush_number
-      points-kind-fits e =
+      points_kind_fits e =
           rw e (go (eqb (px_number c n) 0) refl (points_ok pts) (coords_ok pts && paint_ok (paint_of b)) (unless (leb (poly_need pts) words) 9 0))
         where
           go : (t : Bool) → eqb (px_number c n) 0 ≡ t → (p f : Bool) (rest : ℕ)

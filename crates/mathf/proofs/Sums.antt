@@ -240,8 +240,8 @@ module _ (m : ℕ) (e : ℤ) (h : T (lt (fin false m e) (fin false 1 (pos 23))))
   near_fin : Near (fin false m e)
   unfolding add ceil_of
   near_fin =
-      let a = whole_bits first (at_least k) (few-of k few) in
-      let b = whole_bits next (at_least t) (few-next t few_up) in
+      let a = whole_bits first (at_least k) (few_of k few) in
+      let b = whole_bits next (at_least t) (few_next t few_up) in
       let p = bits_order (whole_of false first) y lo_positive y_positive lo_large over_first in
       let q = bits_order y (whole_of false next) y_positive hi_positive (larger (whole_of false first) y lo_positive y_positive lo_large over_first) under_next in
       record {
@@ -251,7 +251,7 @@ module _ (m : ℕ) (e : ℤ) (h : T (lt (fin false m e) (fin false 1 (pos 23))))
         ceils = refl;
         close = close_of k t same close;
         few = few_up;
-        high = high-of t (to_bits binary32 y) b q;
+        high = high_of t (to_bits binary32 y) b q;
         over = λ n l t. le_trans (le_of_eq (ap suc same)) ((div-lt_iff_lt-mul (down_pos e)).1 (lt_n (of_int binary32 (pos n)) n m e (of_int_lem n (le_trans l (lit≤ tt))) t));
         under = λ n l t. le_trans ((le-div_iff_mul-le (down_pos e)).1 (ge_n (of_int binary32 (pos n)) n m e (of_int_lem n (le_trans l (lit≤ tt))) t)) (le_of_eq (sym same));
         short = λ n l d.
@@ -263,11 +263,11 @@ module _ (m : ℕ) (e : ℤ) (h : T (lt (fin false m e) (fin false 1 (pos 23))))
       at_least : (k : ℕ) → 2 ^ 23 ≤ 2 ^ 23 + k
       at_least k = omega arith
 
-      few-of : (k : ℕ) → k < 2 ^ 23 → 2 ^ 23 + k ≤ 2 ^ 24
-      few-of k h = omega arith
+      few_of : (k : ℕ) → k < 2 ^ 23 → 2 ^ 23 + k ≤ 2 ^ 24
+      few_of k h = omega arith
 
-      few-next : (k : ℕ) → k ≤ 2 ^ 23 → 2 ^ 23 + k ≤ 2 ^ 24
-      few-next k h = omega arith
+      few_next : (k : ℕ) → k ≤ 2 ^ 23 → 2 ^ 23 + k ≤ 2 ^ 24
+      few_next k h = omega arith
 
       close_of : (k t : ℕ) {u : ℕ} → u ≡ k → t ≤ suc k → t ≤ u + 1
       close_of k t e h = omega arith
@@ -275,8 +275,8 @@ module _ (m : ℕ) (e : ℤ) (h : T (lt (fin false m e) (fin false 1 (pos 23))))
       low_of : (k p : ℕ) {u b : ℕ} → u ≡ k → b ≡ 149 * 2 ^ 23 + (2 ^ 23 + k) → b ≤ p → 150 * 2 ^ 23 + u ≤ p
       low_of k p e f h = omega arith
 
-      high-of : (t p : ℕ) {b : ℕ} → b ≡ 149 * 2 ^ 23 + (2 ^ 23 + t) → p ≤ b → p ≤ 150 * 2 ^ 23 + t
-      high-of t p f h = omega arith
+      high_of : (t p : ℕ) {b : ℕ} → b ≡ 149 * 2 ^ 23 + (2 ^ 23 + t) → p ≤ b → p ≤ 150 * 2 ^ 23 + t
+      high_of t p f h = omega arith
 
 pub near : (x : Float) → T (lt (fin false 0 (pos 0)) x) ⊎ (x ≡ fin false 0 (pos 0)) → T (lt x (fin false 1 (pos 23))) → Near x
 near x (inr z) h = subst Near (sym z) (near_fin 0 (pos 0) (subst (λ (v : Float). T (lt v (fin false 1 (pos 23)))) z h))

@@ -59,10 +59,10 @@ module _ (s : List ℕ) where
         ∙ count_area (width_of s) (height_of s) (clip_to reach c.clip) fits.across right fits.down bottom
       where
         same : (x y : ℕ) → drawing.meets kind (record { under = c.clip; drawn = a }) x y ≡ in_area (clip_to reach c.clip) x y
-        same x y = meets-is x y ∙ in_clip reach c.clip x y
+        same x y = meets_is x y ∙ in_clip reach c.clip x y
           where
-            meets-is : (x y : ℕ) → drawing.meets kind (record { under = c.clip; drawn = a }) x y ≡ Draw.meets c.clip reach x y
-            meets-is x y = rw q
+            meets_is : (x y : ℕ) → drawing.meets kind (record { under = c.clip; drawn = a }) x y ≡ Draw.meets c.clip reach x y
+            meets_is x y = rw q
 
   -- what a shape adds, and that a push or a pop adds nothing
   pub shape_cells : (k : ℕ) (c : Canvas) → Standing s (width_of s) k c → (b : List ℕ) → is_shape (item_in b) ≡ true

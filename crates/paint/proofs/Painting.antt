@@ -32,7 +32,7 @@ use Rattle.redraw.proofs.Items.{length_ground}
 use Rattle.redraw.proofs.Rules.{does_drawn}
 use Rattle.clips.specs.States.{state_in}
 use Rattle.clips.proofs.Clips.{saved_of}
-use Rattle.clips.proofs.Standing.{stands-first}
+use Rattle.clips.proofs.Standing.{stands_first}
 use Rattle.render.specs.Stages.{stage, stages_from, steps_from}
 use Rattle.render.proofs.Drawing.{At, drawn_px, drawn_steps, drawn_scratch}
 use Rattle.paint.specs.Paint.{need_in, state_of, grounded_in, DrewSheet}
@@ -47,7 +47,7 @@ module _ (s : List ℕ) (pitch : ℕ) (e : sheet_check s ≡ verdict 0 0) (rows 
   module _ (px : List ℕ) (scratch : List Float) (count : length px ≡ pitch * height_of s) (words : need_in s ≤ length scratch) where
     start : At s pitch 0 (stage c px scratch) (need_in s)
     unfolding state_in
-    start = record { stands = stands-first s pitch first e rows ok; count = count; words = words }
+    start = record { stands = stands_first s pitch first e rows ok; count = count; words = words }
 
     -- px and scratch after the items, and their steps
     items_px : (stages_from s (count_of s) 0 (stage c px scratch)).px ≡ items_on kind pitch (items_from s (count_of s) 0) (only first) px
@@ -90,7 +90,7 @@ module _ (s : List ℕ) (pitch : ℕ) (e : sheet_check s ≡ verdict 0 0) (area 
 
   opened : Open (state_of s pitch area) (length px)
   unfolding state_in
-  opened = record { valid = (stands-first s pitch area e rows ok).sound.valid; frame = l.frame }
+  opened = record { valid = (stands_first s pitch area e rows ok).sound.valid; frame = l.frame }
 
   grounded_px : List ℕ
   grounded_px = ground_in pitch area (pix_of (ground_of s)) px

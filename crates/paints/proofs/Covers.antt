@@ -1,11 +1,11 @@
 -- The coverage at an edge, by the squared distance: the root, the difference and the coverage keep the order, so one tested number speaks for all beyond it.
 --     none_from, full_upto      from half a pixel outside on the coverage is 0, up to half a pixel inside 255
---     half-outside, half-inside    the same, as the code tests a distance
---     sum-above, sum_below      what a sum with one number keeps of the order
---     cover-none, cover-full    the coverage by the squared distance
+--     half_outside, half_inside    the same, as the code tests a distance
+--     sum_above, sum_below      what a sum with one number keeps of the order
+--     cover_none, cover_full    the coverage by the squared distance
 --     squares                   a sum of two squares is not below 0, or a NaN
---     outside-at, inside-at     what a test of one number gives
---     edge-cover, edge_beside   the coverage by the edge of a radius is that with the root
+--     outside_at, inside_at     what a test of one number gives
+--     edge_cover_lem, edge_beside   the coverage by the edge of a radius is that with the root
 -- Assumes nothing.
 use mathlib.Core.Path.{◌≡◌, refl, sym, ap, subst, ◌∙◌}
 use mathlib.Core.Logic.{◌⊎◌, inl, inr}

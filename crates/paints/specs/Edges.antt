@@ -1,7 +1,7 @@
 -- A round edge as loops keep it: its distance, and two squared distances at which its coverage is known without a root. No call
 -- of the library cites this file; what the crates share, `Edge::of`, `Edge::cover` and `Edge::beside`, is said by it. That no
 -- pixel turns on it is a law: of the edge of any radius, `edge_cover` and `beside_of` are the coverage with the root
--- (proofs/Covers, `edge_cover_lem` and `IsEdge-beside`).
+-- (proofs/Covers, `edge_cover_lem` and `edge_beside`).
 use Rattle.std.specs.Prelude.{cond, ◌&&◌, ℕ, Float}
 use Rattle.std.specs.Float.{binary32}
 use Rattle.std.specs.Float.Ieee.{of_bits, neg}

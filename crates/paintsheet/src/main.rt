@@ -2,7 +2,7 @@
 #![tactic(auto)]
 
 ghost use Rattle.std.specs.Prelude.{◌≡◌, length};
-ghost use Rattle.std.specs.Io.{ReadsAtMost};
+ghost use Rattle.io.specs.Counts.{IsPrefixLen};
 
 use std::io;
 use std::io::Read;
@@ -36,24 +36,24 @@ fn letters() -> [u8; 147456]
     [0; 147456]
 }
 
-// Reads until buf is full or the input ends, and returns how many bytes it put at the start of buf.
-fn read_full(input: &mut impl Read, buf: &mut [u8]) -> io::Result<usize>
-    ensures { ReadsAtMost result buf.new }
+// Reads until buf is full or the input ends, and returns how many bytes it put at the start of buf. A read that fails ends the input.
+fn read_full(input: &mut impl Read, buf: &mut [u8]) -> usize
+    ensures { IsPrefixLen result buf.new }
 {
     let mut done = 0;
     while done < buf.len() {
-        let n = input.read(&mut buf[done..])?;
+        let n = input.read(&mut buf[done..]).unwrap_or(0);
         if n == 0 {
             break;
         }
         done += n;
     }
-    Ok(done)
+    done
 }
 
 fn main(rt: HostRuntime) -> io::Result<()> {
     let mut space = bytes();
-    let n = read_full(&mut rt.stdin(), &mut space)?;
+    let n = read_full(&mut rt.stdin(), &mut space);
     let mut px = pixels();
     let mut scratch = words();
     let mut out = letters();

@@ -1,12 +1,12 @@
 -- Places in a box, and registers in order.
---     column-of, row_of, left-of    registers that were written are read back
+--     column_of, row_of, left_of    registers that were written are read back
 --     place_of, in_place            a place, by naturals
 --     inner_of                      a box that is not empty and lies in the canvas, by naturals
 --     underway                      what registers in order with a pixel ready tell
---     next_place, row-place         the places that a take moves on to
---     twelve-first                  registers out of order
---     step-open, loading, taking    what an accepted step knows
---     pixel-inside                  the pixel of an accepted take lies in px
+--     next_place, row_place         the places that a take moves on to
+--     twelve_first                  registers out of order
+--     step_open, loading, taking    what an accepted step knows
+--     pixel_inside                  the pixel of an accepted take lies in px
 --     moves                         the three ways in which a take moves on
 -- Assumes nothing.
 use Prim.Native.Nat.{ℕ, suc, ◌+◌, ◌-◌, ◌*◌, ◌%◌, ◌≤◌, ◌<◌}

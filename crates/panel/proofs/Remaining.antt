@@ -1,8 +1,8 @@
 -- The pixels of a box, and those that remain from a place on: the rest of the row, and the rows below it.
 --     none_of, no_size                                 an empty box has no pixel
---     size-of                                          a box in the canvas has as many as its size
---     remaining-all                                    at its corner the whole box remains
---     remaining-more, remaining-row, remaining-last    one pixel, and what remains after it
+--     size_of_lem                                      a box in the canvas has as many as its size
+--     remaining_all                                    at its corner the whole box remains
+--     remaining_more, remaining_row, remaining_last    one pixel, and what remains after it
 -- Assumes nothing.
 use Prim.Native.Nat.{ℕ, zero, suc, ◌+◌, ◌-◌, ◌*◌, ◌≤◌, ◌<◌}
 use mathlib.Core.Bool.{true, ◌||◌}

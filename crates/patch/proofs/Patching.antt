@@ -47,11 +47,11 @@ module _ (old new : List ℕ) (p : sheet_check old ≡ verdict 0 0) (q : sheet_c
     not_allowed k = by_change ∙ rw (ne_eqb _ 0 k)
 
     module _ (z : change_number (found old new) ≡ 0) where
-      pub not-lent : (m : ℕ) → lent_number format (sheet_of new) pitch n words ≡ m → (m ≡ 0 → ⊥) → patching format old new pitch n words ≡ refuses m 0
-      not-lent m e k = by_change ∙ rw (eq-eqb _ 0 z) (lent_refused format (sheet_of new) pitch n words box m e k)
+      pub not_lent : (m : ℕ) → lent_number format (sheet_of new) pitch n words ≡ m → (m ≡ 0 → ⊥) → patching format old new pitch n words ≡ refuses m 0
+      not_lent m e k = by_change ∙ rw (eq-eqb _ 0 z) (lent_refused format (sheet_of new) pitch n words box m e k)
 
-      pub drawn-new : lent_number format (sheet_of new) pitch n words ≡ 0 → patching format old new pitch n words ≡ draws (sheet_of new) box
-      drawn-new k = by_change ∙ rw (eq-eqb _ 0 z) (lent_draws format (sheet_of new) pitch n words box k)
+      pub drawn_new : lent_number format (sheet_of new) pitch n words ≡ 0 → patching format old new pitch n words ≡ draws (sheet_of new) box
+      drawn_new k = by_change ∙ rw (eq-eqb _ 0 z) (lent_draws format (sheet_of new) pitch n words box k)
 
 -- ---- the box
 

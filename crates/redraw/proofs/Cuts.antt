@@ -1,6 +1,6 @@
 -- Smaller boxes under a clip, over any format.
---     own-steps     the shapes of the pairs that differ, with their clips, are steps of their own sheets, as painting from nothing has them
---     one-clip      "The clips of old and new sheet agree there, since pushes and pops do."
+--     own_steps     the shapes of the pairs that differ, with their clips, are steps of their own sheets, as painting from nothing has them
+--     one_clip      "The clips of old and new sheet agree there, since pushes and pops do."
 --     smaller       numbers and items are those of before, and the box lies in the one of before
 --     as_before     a sheet without a push has the box of before
 --     fewer         the ceiling counts no more shapes than before

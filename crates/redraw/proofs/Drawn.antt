@@ -1,5 +1,5 @@
 -- The laws of drawing, over any kind of shape.
---     first-clip   inside two first clips, the items give a pixel the same value under either
+--     first_clip   inside two first clips, the items give a pixel the same value under either
 --     untouched    lists of items that differ only in shapes agree on a pixel that none of those shapes reaches under its clip
 --     redrawn      drawing new items in a box on pixels that show the old ones leaves pixels that show the new ones
 -- Assumes nothing.

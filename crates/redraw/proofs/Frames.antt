@@ -1,10 +1,10 @@
 -- A canvas within a wider frame, over any format.
---     other-pitch       px in rows of one pitch, lent with another: 15 where it is out of its range, else 8
---     pitch-refused     .. so in a list a patch with another pitch than the painting's is refused
---     painted-margin    painting leaves the words of a row past the width
---     patched-margin    .. and so does patching, refused or not
---     own-width         a pitch that is the width: 8 and 9 by w × h words, and no 15
---     shown-whole       .. px is the fresh painting, word for word
+--     other_pitch       px in rows of one pitch, lent with another: 15 where it is out of its range, else 8
+--     pitch_refused     .. so in a list a patch with another pitch than the painting's is refused
+--     painted_margin    painting leaves the words of a row past the width
+--     patched_margin    .. and so does patching, refused or not
+--     own_width         a pitch that is the width: 8 and 9 by w × h words, and no 15
+--     shown_whole       .. px is the fresh painting, word for word
 -- Assumes nothing.
 use mathlib.Core.Bool.{Bool, true, false, cond}
 use mathlib.Core.List.{List}

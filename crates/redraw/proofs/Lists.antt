@@ -386,9 +386,9 @@ module _ {Word : Type 0} (zero_word : Word) (F : Format) (law : Lawful F) where
       long = n ∙ s.long ∙ ap (λ (k : ℕ). pitch * k) (ap (λ (t : Sheet F.kind.Shape). t.h) held_is ∙ same_h p.from new p.header);
       fresh_words = words new pitch c.px_left (rw d (redrawn F.kind pitch (canvas new) box new.ground_pixel p.from.items new.items p.pairs px
           (edited F.same law.sound p.from.items new.items (only (canvas new)) p.pairs p.differ)
-          (hull_smallest (canvas new) (reaches F.kind.reach p.pairs)).around shows-old));
+          (hull_smallest (canvas new) (reaches F.kind.reach p.pairs)).around shows_old));
       margin = λ i k f. rw d (outside_kept F.kind pitch box new.ground_pixel new.items px i (rw n at k) (out_of_hull (canvas new) (reaches F.kind.reach p.pairs) _ _ f))
-          ∙ s.margin i (rw n at k) (rw canvas-held f);
+          ∙ s.margin i (rw n at k) (rw canvas_held f);
     }
       where
         new : Sheet F.kind.Shape
@@ -400,8 +400,8 @@ module _ {Word : Type 0} (zero_word : Word) (F : Format) (law : Lawful F) where
         held_is : s.held ≡ p.from
         held_is = read_one s.reads p.reads_from
 
-        canvas-held : canvas s.held ≡ canvas p.to
-        canvas-held = ap (λ (t : Sheet F.kind.Shape). canvas t) held_is ∙ same_canvas p.from p.to p.header
+        canvas_held : canvas s.held ≡ canvas p.to
+        canvas_held = ap (λ (t : Sheet F.kind.Shape). canvas t) held_is ∙ same_canvas p.from p.to p.header
 
         d : c.px_left ≡ painted_in F.kind pitch box p.to.ground_pixel p.to.items px
         d = drew p ∙ ap (λ (k : ℕ). painted_in F.kind k box p.to.ground_pixel p.to.items px) (pitch_kept p s)
@@ -409,11 +409,11 @@ module _ {Word : Type 0} (zero_word : Word) (F : Format) (law : Lawful F) where
         n : length c.px_left ≡ length px
         n = ap length d ∙ length_drawn F.kind pitch box p.to.ground_pixel p.to.items px
 
-        shows-held : Shows F.kind pitch (canvas p.from) p.from.ground_pixel p.from.items px
-        shows-held = subst (λ (t : Sheet F.kind.Shape). Shows F.kind pitch (canvas t) t.ground_pixel t.items px) held_is (shows_of pitch before kept px s)
+        shows_held : Shows F.kind pitch (canvas p.from) p.from.ground_pixel p.from.items px
+        shows_held = subst (λ (t : Sheet F.kind.Shape). Shows F.kind pitch (canvas t) t.ground_pixel t.items px) held_is (shows_of pitch before kept px s)
 
-        shows-old : Shows F.kind pitch (canvas p.to) p.to.ground_pixel p.from.items px
-        shows-old = rw (← same_canvas p.from p.to p.header, ← same_ground p.from p.to p.header) shows-held
+        shows_old : Shows F.kind pitch (canvas p.to) p.to.ground_pixel p.from.items px
+        shows_old = rw (← same_canvas p.from p.to p.header, ← same_ground p.from p.to p.header) shows_held
 
     pub confined : Accepted → Confined F kept px c
     confined p = record {

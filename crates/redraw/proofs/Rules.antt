@@ -62,38 +62,38 @@ module _ (F : Format) (old new : List ℕ) (pitch pl sl : ℕ) where
     patch_new_refused n k e = after_old ∙ ap (λ (r : Reading F.kind.Shape). patch_of F (read a) r pitch pl sl) e
 
     module _ (b : Sheet F.kind.Shape) (q : F.reading new ≡ read b) where
-      after-new : patching F old new pitch pl sl
+      after_new : patching F old new pitch pl sl
           ≡ cond (same_header a b) (patch_by F (change_in F (canvas b) a b) b pitch pl sl) (refuses 10 0)
       unfolding patch_of
-      after-new = after_old ∙ ap (λ (r : Reading F.kind.Shape). patch_of F (read a) r pitch pl sl) q
+      after_new = after_old ∙ ap (λ (r : Reading F.kind.Shape). patch_of F (read a) r pitch pl sl) q
 
-      pub patch-header : same_header a b ≡ false → patching F old new pitch pl sl ≡ refuses 10 0
-      patch-header h = after-new ∙ rw h
+      pub patch_header : same_header a b ≡ false → patching F old new pitch pl sl ≡ refuses 10 0
+      patch_header h = after_new ∙ rw h
 
       module _ (h : same_header a b ≡ true) where
-        after-header : (c : Change F.kind.Shape) → change_in F (canvas b) a b ≡ c
+        after_header : (c : Change F.kind.Shape) → change_in F (canvas b) a b ≡ c
             → patching F old new pitch pl sl ≡ patch_by F c b pitch pl sl
-        after-header c d = after-new ∙ rw (h, d)
+        after_header c d = after_new ∙ rw (h, d)
 
-        pub patch-other : change_in F (canvas b) a b ≡ other → patching F old new pitch pl sl ≡ refuses 10 0
+        pub patch_other : change_in F (canvas b) a b ≡ other → patching F old new pitch pl sl ≡ refuses 10 0
         unfolding patch_by
-        patch-other d = after-header other d
+        patch_other d = after_header other d
 
         module _ (l : List (Pair F.kind.Shape)) (d : change_in F (canvas b) a b ≡ shapes l) where
-          pub patch-many : few l ≡ false → patching F old new pitch pl sl ≡ too_many
+          pub patch_many : few l ≡ false → patching F old new pitch pl sl ≡ too_many
           unfolding patch_by
-          patch-many m = after-header (shapes l) d ∙ rw m
+          patch_many m = after_header (shapes l) d ∙ rw m
 
           module _ (m : few l ≡ true) where
-            after-few : patching F old new pitch pl sl ≡ lent F b pitch pl sl (hull (canvas b) (reaches F.kind.reach l))
+            after_few : patching F old new pitch pl sl ≡ lent F b pitch pl sl (hull (canvas b) (reaches F.kind.reach l))
             unfolding patch_by
-            after-few = after-header (shapes l) d ∙ rw m
+            after_few = after_header (shapes l) d ∙ rw m
 
-            pub patch-unlent : (n : ℕ) → lent_number F b pitch pl sl ≡ n → (n ≡ 0 → ⊥) → patching F old new pitch pl sl ≡ refuses n 0
-            patch-unlent n z k = after-few ∙ lent_refused F b pitch pl sl _ n z k
+            pub patch_unlent : (n : ℕ) → lent_number F b pitch pl sl ≡ n → (n ≡ 0 → ⊥) → patching F old new pitch pl sl ≡ refuses n 0
+            patch_unlent n z k = after_few ∙ lent_refused F b pitch pl sl _ n z k
 
-            pub patch-draws : lent_number F b pitch pl sl ≡ 0 → patching F old new pitch pl sl ≡ draws b (hull (canvas b) (reaches F.kind.reach l))
-            patch-draws z = after-few ∙ lent_draws F b pitch pl sl _ z
+            pub patch_draws : lent_number F b pitch pl sl ≡ 0 → patching F old new pitch pl sl ≡ draws b (hull (canvas b) (reaches F.kind.reach l))
+            patch_draws z = after_few ∙ lent_draws F b pitch pl sl _ z
 
 -- ---- the contract of an outcome that is known
 

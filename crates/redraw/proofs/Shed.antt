@@ -1,12 +1,12 @@
 -- A sheet without its dead shapes is painted where the whole one is, to the same pixels, and has no more to shed. Assumes nothing.
---     shed-by        by whether the first item stays
---     shed-on        in rows of any pitch, px is what all items leave
---     shed-steps     .. and as many steps alter a pixel
---     shed-fresh     the fresh painting is the same
---     shed-twice     nothing more can be shed
---     shed-served    a painting of it is accepted where one of the whole sheet is
---     shed-same      two that are accepted return and leave the same
---     shed-shown     px that shows the whole sheet shows it
+--     shed_by        by whether the first item stays
+--     shed_on        in rows of any pitch, px is what all items leave
+--     shed_steps     .. and as many steps alter a pixel
+--     shed_fresh     the fresh painting is the same
+--     shed_twice     nothing more can be shed
+--     shed_served    a painting of it is accepted where one of the whole sheet is
+--     shed_same      two that are accepted return and leave the same
+--     shed_shown     px that shows the whole sheet shows it
 use mathlib.Core.Bool.{Bool, true, false, cond, ◌&&◌}
 use mathlib.Core.List.{List, [], ◌∷◌}
 use mathlib.Core.Path.{◌≡◌, refl, sym, ap, ap₂, ◌∙◌}
@@ -170,33 +170,33 @@ module _ (F : Format) where
         p.is ∙ ap (λ (t : Whole). draws t (canvas t)) (read_one p.reads shed-reads)
 
     module _ (within : PartsWithin F.kind) (pitch : ℕ) (px : List ℕ) where
-      same-pixels : pixels F.kind pitch less px ≡ pixels F.kind pitch all px
+      same_pixels : pixels F.kind pitch less px ≡ pixels F.kind pitch all px
       unfolding pixels canvas
-      same-pixels = shed_on F.kind pitch s.items (only (canvas s)) _
+      same_pixels = shed_on F.kind pitch s.items (only (canvas s)) _
 
       same_steps : steps_of F.kind pitch less px ≡ steps_of F.kind pitch all px
       unfolding steps_of canvas
       same_steps = shed_steps F.kind within pitch s.items (only (canvas s)) _
 
-      same-grounds : grounds_of F.kind pitch less px ≡ grounds_of F.kind pitch all px
+      same_grounds : grounds_of F.kind pitch less px ≡ grounds_of F.kind pitch all px
       unfolding grounds_of canvas
-      same-grounds = refl
+      same_grounds = refl
 
       same_answer : answer less ≡ answer all
       unfolding answer canvas
       same_answer = refl
 
-      pub shed-same : {Word : Type 0} (zero_word : Word) (u v : List Word) (a b : Reply) (px' qx : List ℕ) (u' v' : List Word)
+      pub shed_same : {Word : Type 0} (zero_word : Word) (u v : List Word) (a b : Reply) (px' qx : List ℕ) (u' v' : List Word)
           → Painted zero_word F x pitch px u a px' u' → Painted zero_word F y pitch px v b qx v'
           → accepted (painting F x pitch (length px) (length u)) ≡ true → accepted (painting F y pitch (length px) (length v)) ≡ true
           → (b ≡ a) × (qx ≡ px')
-      shed-same zero_word u v a b px' qx u' v' p q e f =
+      shed_same zero_word u v a b px' qx u' v' p q e f =
           let from = draws_all pitch (length px) (length u) e in
           let to = draws_less pitch (length px) (length v) f in (
             same_reply a b (q.answers ∙ ap answer to ∙ same_answer ∙ sym (p.answers ∙ ap answer from))
                 (q.steps ∙ ap (λ o. steps_of F.kind pitch o px) to ∙ same_steps ∙ sym (p.steps ∙ ap (λ o. steps_of F.kind pitch o px) from))
-                (q.grounds ∙ ap (λ o. grounds_of F.kind pitch o px) to ∙ same-grounds ∙ sym (p.grounds ∙ ap (λ o. grounds_of F.kind pitch o px) from)),
-            q.paints ∙ ap (λ o. pixels F.kind pitch o px) to ∙ same-pixels ∙ sym (p.paints ∙ ap (λ o. pixels F.kind pitch o px) from),
+                (q.grounds ∙ ap (λ o. grounds_of F.kind pitch o px) to ∙ same_grounds ∙ sym (p.grounds ∙ ap (λ o. grounds_of F.kind pitch o px) from)),
+            q.paints ∙ ap (λ o. pixels F.kind pitch o px) to ∙ same_pixels ∙ sym (p.paints ∙ ap (λ o. pixels F.kind pitch o px) from),
           )
 
     pub shed_shown : (pitch : ℕ) (before px : List ℕ) → Shown F pitch before x px → Shown F pitch before y px

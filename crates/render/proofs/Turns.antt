@@ -1,8 +1,8 @@
 -- The items of a sheet, one turn after the other: what is drawn so far, drawn on, is the whole. Assumes nothing.
 --     Run                 the invariant of the loop over the items, with the steps so far
---     run-start           the loop begins
---     run-shape           the turn draws a shape, which leaves the state
---     run-other           the turn has a push or a pop, which leaves px and scratch
+--     run_start           the loop begins
+--     run_shape           the turn draws a shape, which leaves the state
+--     run_other           the turn has a push or a pop, which leaves px and scratch
 --     run_end             no item is left
 use Prim.Native.Nat.{ℕ, suc, ◌+◌, ◌-◌, ◌*◌, ◌<◌, ◌≤◌}
 use mathlib.Core.Path.{◌≡◌, refl, sym, ap, ◌∙◌}

@@ -1,7 +1,7 @@
 -- Words of a row past the width are altered by no call. Assumes nothing.
---     kept-left      a call that leaves px where it is refused, and else what keeps them
+--     kept_left      a call that leaves px where it is refused, and else what keeps them
 --     framed_kept    the pixels of a canvas set to one value
---     drawn-kept     a shape under the clip of a valid state
+--     drawn_kept     a shape under the clip of a valid state
 use mathlib.Core.Path.{◌≡◌, refl, ap, ◌∙◌}
 use mathlib.Core.Bool.{Bool, true, false, cond}
 use mathlib.Core.List.{List}

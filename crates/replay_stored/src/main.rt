@@ -3,7 +3,7 @@
 #![tactic(auto)]
 
 ghost use Rattle.std.specs.Prelude.{◌≡◌, length};
-ghost use Rattle.std.specs.Io.{ReadsAtMost};
+ghost use Rattle.io.specs.Counts.{IsPrefixLen};
 
 use leaves::{ALL, Tally, count};
 use std::fs::File;
@@ -18,31 +18,31 @@ fn buffer() -> [u8; 420000]
     [0; 420000]
 }
 
-// Reads until buf is full or the input ends, and returns how many bytes it put at the start of buf.
-fn read_full(input: &mut impl Read, buf: &mut [u8]) -> io::Result<usize>
-    ensures { ReadsAtMost result buf.new }
+// Reads until buf is full or the input ends, and returns how many bytes it put at the start of buf. A read that fails ends the input.
+fn read_full(input: &mut impl Read, buf: &mut [u8]) -> usize
+    ensures { IsPrefixLen result buf.new }
 {
     let mut done = 0;
     while done < buf.len() {
-        let n = input.read(&mut buf[done..])?;
+        let n = input.read(&mut buf[done..]).unwrap_or(0);
         if n == 0 {
             break;
         }
         done += n;
     }
-    Ok(done)
+    done
 }
 
 // Reads a file; no bytes where it is missing, or where its name is no text.
-fn read(rt: &impl Files, name: &[u8], buf: &mut [u8]) -> io::Result<usize>
-    ensures { ReadsAtMost result buf.new }
+fn read(rt: &impl Files, name: &[u8], buf: &mut [u8]) -> usize
+    ensures { IsPrefixLen result buf.new }
 {
     let Ok(path) = str::from_utf8(name) else {
-        return Ok(0);
+        return 0;
     };
     match File::open(rt, path) {
         Ok(mut file) => read_full(&mut file, buf),
-        Err(_) => Ok(0),
+        Err(_) => 0,
     }
 }
 
@@ -87,7 +87,7 @@ fn total(rt: &impl Print, name: &[u8], bytes: &[u8], area: u32) -> io::Result<()
 }
 
 fn replay(rt: &(impl Files + Print), name: &[u8], buf: &mut [u8], area: u32) -> io::Result<()> {
-    let n = read(rt, name, buf)?;
+    let n = read(rt, name, buf);
     let bytes = &buf[..n];
     lines(rt, name, bytes, area)?;
     total(rt, name, bytes, area)

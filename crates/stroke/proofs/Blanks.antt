@@ -1,6 +1,6 @@
 -- Where a corner's band covers nothing, by the squared distance of its centre: outside the edge one share is 0, inside the band the other is 1.
---     blank-out, blank-in    the coverage half a pixel outside, and half a pixel inside the band
---     from_at, upto-at       what a test of one number gives for all beyond it
+--     blank_out, blank_in    the coverage half a pixel outside, and half a pixel inside the band
+--     from_at, upto_at       what a test of one number gives for all beyond it
 -- Assumes nothing.
 use mathlib.Core.Path.{◌≡◌, refl, sym, ap, subst, ◌∙◌}
 use mathlib.Core.Logic.{◌⊎◌, inl, inr}

@@ -55,7 +55,7 @@ module _ (number item : ℕ) (out : List ℕ) (room : 33 ≤ length out) (at end
   -- the five runs
   pub refusal_put : {a b c d e : List ℕ} → a ≡ placed 0 refused_word out → b ≡ placed 8 (decimal_of number) a → c ≡ placed at at_word b
       → d ≡ placed (at + 4) (decimal_of item) c → e ≡ placed end newline d → Put (refusal_text number item) out (end + 1) e
-  refusal_put {a} {b} {c} {d} {e} p q r s t = record { long = sym long; puts = text-is ∙ placed_first (refusal_text number item) out (omega (arith, long, item-ends, number-ends, short_number, short_item)) }
+  refusal_put {a} {b} {c} {d} {e} p q r s t = record { long = sym long; puts = text_is ∙ placed_first (refusal_text number item) out (omega (arith, long, item-ends, number-ends, short_number, short_item)) }
     where
       first : b ≡ placed 0 one out
       first = q ∙ rw p (next_run refused_word (decimal_of number) out 8 refl (omega (arith, short_number)))
@@ -66,8 +66,8 @@ module _ (number item : ℕ) (out : List ℕ) (room : 33 ≤ length out) (at end
       third : d ≡ placed 0 three out
       third = s ∙ rw second (next_run two (decimal_of item) out (at + 4) length_two (omega (arith, number-ends, short_number, short_item)))
 
-      text-is : e ≡ placed 0 (refusal_text number item) out
-      text-is = t ∙ rw (third, ← whole) (next_run three newline out end length_three (omega (arith, item-ends, number-ends, short_number, short_item)))
+      text_is : e ≡ placed 0 (refusal_text number item) out
+      text_is = t ∙ rw (third, ← whole) (next_run three newline out end length_three (omega (arith, item-ends, number-ends, short_number, short_item)))
 
 -- ---- a picture
 

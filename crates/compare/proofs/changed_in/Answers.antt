@@ -9,7 +9,7 @@ use Rattle.sheet.specs.Check.{bytes_at}
 use Rattle.items.specs.Format.{item_in}
 use Rattle.clips.specs.States.{start_of}
 use Rattle.compare.specs.Compare.{change_from}
-use Rattle.compare.proofs.Changes.{told_after, told_first, told_other, told-pair, same_turn, shape_turn, other_turn, no_turn}
+use Rattle.compare.proofs.Changes.{told_after, told_first, told_other, told_pair, same_turn, shape_turn, other_turn, no_turn}
 use Rattle.compare.proofs.changed_in.Goals as goal
 
 pub canvas_of-canvas-requires : goal.canvas_of-canvas-requires
@@ -125,7 +125,7 @@ loop-k-preserved c =
     let m = a.n - (k + 1) in
     let s = c.loop-k.state in
     let e = other_turn old new (a.n - k) m k (omega arith) s _ c.same_at.ensures c.if-same_at.false in
-    let p = told-pair c.canvas_of-canvas.result c.loop-k.count c.loop-k.area s.clip (bytes_at old k) (bytes_at new k)
+    let p = told_pair c.canvas_of-canvas.result c.loop-k.count c.loop-k.area s.clip (bytes_at old k) (bytes_at new k)
     (change_from old new m (k + 1) s) _ c.both_shapes.ensures (c.if-not-both_shapes.false) in
     (omega arith, omega arith, rw c.area_with-area.ensures (sym p ∙ rw (← e) c.loop-k.invariant.2))
 

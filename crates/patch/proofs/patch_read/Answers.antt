@@ -5,7 +5,7 @@ use Rattle.redraw.proofs.Rules.{does_refused}
 use Rattle.compare.specs.declared.Difference.{Difference}
 use Rattle.redraw.proofs.Lists.{lends_of}
 use Rattle.paint.proofs.Painting.{drawn_does}
-use Rattle.patch.proofs.Patching.{other_header, not_allowed, not-lent, drawn-new, box_clip}
+use Rattle.patch.proofs.Patching.{other_header, not_allowed, not_lent, drawn_new, box_clip}
 use Rattle.patch.proofs.patch_read.Goals as goal
 
 pub same_header-requires : goal.same_header-requires
@@ -45,7 +45,7 @@ returns-then-lent-ne0 c =
     let d = ap (λ (r : Difference). r.number) c.changed-d.ensures in
     let l = c.lent_number-lent.ensures in
     does_refused zero_word format c.args.pitch c.args.px.now c.args.scratch.now _ _ 0 _
-    (not-lent c.args.old.now c.args.new.now c.requires.first c.requires.second _ _ _ (sym c.same_header.ensures ∙ c.if-not-same_header.false)
+    (not_lent c.args.old.now c.args.new.now c.requires.first c.requires.second _ _ _ (sym c.same_header.ensures ∙ c.if-not-same_header.false)
     (sym d ∙ c.if-number-ne0.false) _ (sym l) c.if-lent-ne0.true)
     c.refusal-then-lent-ne0.ensures
 
@@ -61,4 +61,4 @@ returns c =
     let area = ap (λ (r : Difference). r.area) c.changed-d.ensures in
     let z = sym c.lent_number-lent.ensures ∙ c.if-lent-ne0.false in
     drawn_does new c.args.pitch c.requires.second _ (box_clip old new) c.args.px.now c.args.scratch.now (lends_of format (sheet_of new) c.args.pitch _ _ z)
-    (drawn-new old new c.requires.first c.requires.second _ _ _ same (sym number ∙ c.if-number-ne0.false) z) (rw area at c.draw_in.ensures)
+    (drawn_new old new c.requires.first c.requires.second _ _ _ same (sym number ∙ c.if-number-ne0.false) z) (rw area at c.draw_in.ensures)

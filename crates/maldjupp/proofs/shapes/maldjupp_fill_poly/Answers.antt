@@ -2,7 +2,7 @@
 use mathlib.Core.Path.{◌∙◌, sym}
 use borrow.Author.Tests.{le-leb, lt-leb}
 use Rattle.gfx.proofs.Answers.{refused_shape}
-use Rattle.maldjupp.proofs.Numbers.{points_kind_some, points-kind-over, points-kind-stays, points-kind-fits}
+use Rattle.maldjupp.proofs.Numbers.{points_kind_some, points_kind_over, points_kind_stays, points_kind_fits}
 use Rattle.maldjupp.proofs.shapes.maldjupp_fill_poly.Goals as goal
 
 pub returns-then-brush-gt3 : goal.returns-then-brush-gt3
@@ -10,10 +10,10 @@ returns-then-brush-gt3 c =
     let e = c.points_kind_number-number.ensures in
     let over = lt-leb _ 3 c.if-brush-gt3.true in
     record {
-      called = refused_shape (e ∙ points-kind-over _ _ _ _ _ over) (λ z. points_kind_some _ _ _ (sym e ∙ z));
-      clears = points-kind-stays _ _ _ _ _ _ _ over;
+      called = refused_shape (e ∙ points_kind_over _ _ _ _ _ over) (λ z. points_kind_some _ _ _ (sym e ∙ z));
+      clears = points_kind_stays _ _ _ _ _ _ _ over;
     }
 
 pub returns : goal.returns
 returns c =
-    rw (← points-kind-fits _ _ _ _ _ (le-leb _ 3 c.if-brush-gt3.false), ← c.paint.ensures) c.fill_poly.ensures
+    rw (← points_kind_fits _ _ _ _ _ (le-leb _ 3 c.if-brush-gt3.false), ← c.paint.ensures) c.fill_poly.ensures
