@@ -1,4 +1,4 @@
-//! The exported functions of the crate `leaves`. A slice passes as a pointer and a length.
+//! The functions that the crate `leaves_c` exports. A slice passes as a pointer and a length.
 
 /// What drawing a shape returns: its number, or 99 where the state is not left as it was, and the steps that altered a pixel's value.
 #[repr(C)]
