@@ -4,3 +4,4 @@ pub mod Near
 pub mod Overs
 pub mod Parts
 pub mod Sectors
+pub mod Remainders

@@ -3,6 +3,7 @@ ghost use Rattle.std.specs.Prelude.{◌≡◌};
 ghost use Rattle.color.specs.Colours.{byte_of, tones_of, sector_of, hsv_of};
 
 use crate::Color;
+use crate::turns::turned;
 
 // A part from 0 to 1 as a byte, rounded.
 pub(crate) fn level(x: f32) -> u8
@@ -35,7 +36,8 @@ fn sector(i: i32, v: f32, p: f32, q: f32, t: f32) -> Color
 pub fn hsv(h: f32, s: f32, v: f32) -> Color
     ensures { result ≡ hsv_of h s v }
 {
-    let h = (h % 360.0 + 360.0) % 360.0 / 60.0;
+    let rest = turned(h);
+    let h = turned(rest + 360.0) / 60.0;
     let i = mathf::floor(h);
     let f = h - i;
     let p = v * (1.0 - s);

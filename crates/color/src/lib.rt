@@ -11,6 +11,7 @@ use crate::mixing::between;
 pub mod blending;
 pub mod hues;
 pub mod mixing;
+mod turns;
 
 pub use crate::blending::{blend, blend_c, blend_c_wide, over, over_wide, put};
 pub use crate::hues::hsv;

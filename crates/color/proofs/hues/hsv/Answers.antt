@@ -9,4 +9,4 @@ unfolding hsv_of
 returns c =
     let i = c.to_i32 in
     simp (c.sector.ensures, to_z-of_z w32 i.result (record { sfits = i.type_inv }))
-    (simp (i.ensures, c.floor-i.ensures))
+    (simp (i.ensures, c.floor-i.ensures, c.turned-h.ensures, c.turned-rest.ensures))
