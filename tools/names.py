@@ -5,7 +5,7 @@ usage: names.py [TOP]
 
 A row of the table is a name and its new spelling; a third column, of files below crates/, keeps the row to those files. Definitions,
 lemmas and fields are renamed in specs/, proofs/, the clauses of src/, the must-fail edits, and where a comment or a page names them.
-Strings and the program's own names stay. Run it once, after /opt/rattle/port/port.py and before any edit by hand.
+Strings and the program's own names stay. Run it once, after the kit's port/port.py and before any edit by hand.
 """
 
 import os
