@@ -1,11 +1,15 @@
 -- Boxes of pixels within the canvas, as loops go through them: columns x0 up to x1 and rows y0 up to y1, all natural numbers. No
 -- call of the library cites this file: the loops' own contracts do, and `drawn_clip` (proofs/Clips) says that what they draw is
 -- the `drawn` that the calls cite.
-use Rattle.std.specs.Prelude.{Bool, cond, ◌&&◌, List, ◌≡◌, ℕ, ◌+◌, ◌-◌, ◌*◌, ◌/◌, ◌%◌, ◌≤◌, leb, ltb}
+use Rattle.std.specs.Prelude.{Bool, cond, ◌&&◌, List, length, ◌≡◌, ℕ, ◌+◌, ◌-◌, ◌*◌, ◌/◌, ◌%◌, ◌^◌, ◌≤◌, ◌<◌, leb, ltb}
+use Rattle.std.specs.Borrow.{MutBor}
 use Rattle.geom.specs.declared.IRect.{IRect}
 use Rattle.geom.specs.Int.{up}
 use Rattle.geom.specs.Box.{meet, empty}
+use Rattle.color.specs.declared.Inked.{Inked}
+use Rattle.color.specs.Inks.{inked_of}
 use Rattle.draw.specs.declared.Area.{Area}
+use Rattle.draw.specs.declared.Span.{Span}
 use Rattle.draw.specs.Draw.{onto, differ}
 
 -- lo ≤ x < hi
@@ -61,3 +65,30 @@ DrewRow pitch y x0 x1 ink px n px' = Drew (x1 - x0) px (drawn_in pitch (area x0 
 -- an area is drawn
 abbrev pub DrewIn : ℕ → Area → (ℕ → ℕ → ℕ → ℕ) → List ℕ → ℕ → List ℕ → Type 0
 DrewIn pitch b ink px n px' = Drew 4194304 px (drawn_in pitch b ink px) n px'
+
+-- the same of a span
+abbrev pub SpanFits : Span → ℕ → Type 0
+SpanFits s n = RowFits s.pitch s.y s.x0 s.x1 n
+
+abbrev pub DrewSpan : Span → (ℕ → ℕ → ℕ → ℕ) → List ℕ → ℕ → List ℕ → Type 0
+DrewSpan s ink px n px' = DrewRow s.pitch s.y s.x0 s.x1 ink px n px'
+
+-- a closure may be called at each pixel of a span, by its column and its old value, and gives what `ink` does
+abbrev pub TakesPixels : (ℕ → ℕ → Type 0) → Span → Type 0
+TakesPixels pre s = (x p : ℕ) → s.x0 ≤ x → x < s.x1 → p < 2 ^ 32 → pre x p
+
+abbrev pub Inks : (ℕ → ℕ → Inked → Type 0) → Span → (ℕ → ℕ → ℕ → ℕ) → Type 0
+Inks post s ink = (x p : ℕ) (q : Inked) → s.x0 ≤ x → x < s.x1 → p < 2 ^ 32 → post x p q → q ≡ inked_of p (ink x s.y p)
+
+-- the span of row y of an area
+abbrev pub row_of : ℕ → Area → ℕ → Span
+row_of pitch b y = record { pitch = pitch; y = y; x0 = b.x0; x1 = b.x1 }
+
+-- a closure may be called at each row of an area, and draws it by `ink`
+abbrev pub TakesRows : (MutBor (List ℕ) → Span → Type 0) → ℕ → Area → Type 0
+TakesRows pre pitch b = (px : MutBor (List ℕ)) (y : ℕ) → b.y0 ≤ y → y < b.y1 → SpanFits (row_of pitch b y) (length px.now) → pre px (row_of pitch b y)
+
+abbrev pub DrawsRows : (MutBor (List ℕ) → Span → ℕ → MutBor (List ℕ) → Type 0) → ℕ → Area → (ℕ → ℕ → ℕ → ℕ) → Type 0
+DrawsRows post pitch b ink =
+    (px : MutBor (List ℕ)) (y n : ℕ) (px' : MutBor (List ℕ)) → b.y0 ≤ y → y < b.y1 → SpanFits (row_of pitch b y) (length px.now) → post px (row_of pitch b y) n px'
+    → DrewSpan (row_of pitch b y) ink px.now n px'.now

@@ -1,10 +1,11 @@
 // Drawing into lent pixels, in rows of a pitch: the definitions are in specs/, the laws of its loops in proofs/. No public call.
 #![tactic(auto)]
 
-ghost use Rattle.std.specs.Prelude.{◌≡◌, ◌≤◌, min, max};
-ghost use Rattle.draw.specs.Areas.{area_of, clip_to};
+ghost use Rattle.std.specs.Prelude.{◌≡◌, ◌≤◌, ℕ, min, max, length};
+ghost use Rattle.draw.specs.Areas.{area_of, clip_to, SpanFits, DrewSpan, TakesPixels, Inks, AreaFits, DrewIn, TakesRows, DrawsRows};
 ghost use Rattle.draw.specs.Frame.{pitch_number, frame_number};
 
+use color::Inked;
 use geom::{IRect, nat_of};
 
 // A half-open box of pixels within the canvas: columns x0 up to x1, rows y0 up to y1.
@@ -14,6 +15,15 @@ pub struct Area {
     pub y0: usize,
     pub x1: usize,
     pub y1: usize,
+}
+
+// The columns from x0 up to x1 of row y, in rows of `pitch` words.
+#[derive(Clone, Copy)]
+pub struct Span {
+    pub pitch: usize,
+    pub y: usize,
+    pub x0: usize,
+    pub x1: usize,
 }
 
 // A box as an area, its negative sides raised to 0.
@@ -82,4 +92,47 @@ pub fn frame_number(w: usize, h: usize, pitch: usize, n: usize) -> u32
         return number;
     }
     if n == pitch * h { 0 } else { 8 }
+}
+
+impl Span {
+    // Stores at each pixel what an ink makes of its column and its old value, and counts the values that it alters.
+    pub fn draw<F: Fn(usize, u32) -> Inked>(self, px: &mut [u32], ink: F) -> u32
+        requires span_fits { SpanFits self (length px.old) }
+        requires callable { TakesPixels (F.pre ink) self }
+        ensures { (f : ℕ → ℕ → ℕ → ℕ) → Inks (F.post ink) self f → DrewSpan self f px.old result px.new }
+    {
+        let row = self.y * self.pitch;
+        let mut n = 0;
+        for x in self.x0..self.x1 {
+            let i = row + x;
+            let q = ink(x, px[i]);
+            px[i] = q.value;
+            n += q.altered as u32;
+        }
+        n
+    }
+}
+
+impl Area {
+    // Draws each row by a function, in rows of `pitch` words, and sums what it counts.
+    pub fn draw<F: Fn(&mut [u32], Span) -> u32>(self, px: &mut [u32], pitch: usize, row: F) -> u32
+        requires area_fits { AreaFits pitch self (length px.old) }
+        requires callable { TakesRows (F.pre row) pitch self }
+        requires draws { (f : ℕ → ℕ → ℕ → ℕ) × DrawsRows (F.post row) pitch self f }
+        ensures { (f : ℕ → ℕ → ℕ → ℕ) → DrawsRows (F.post row) pitch self f → DrewIn pitch self f px.old result px.new }
+    {
+        let mut n = 0;
+        for y in self.y0..self.y1 {
+            n += row(
+                px,
+                Span {
+                    pitch,
+                    y,
+                    x0: self.x0,
+                    x1: self.x1,
+                },
+            );
+        }
+        n
+    }
 }
