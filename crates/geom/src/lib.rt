@@ -1,6 +1,8 @@
 // Points, rectangles of the plane and boxes of pixels, all by value.
 #![tactic(auto)]
 
+pub mod checks;
+
 ghost use Rattle.std.specs.Prelude.{◌≡◌, ◌&&◌};
 ghost use Rattle.geom.specs.Int.{up, max_z, min_z};
 ghost use Rattle.geom.specs.Box as Box;
@@ -10,7 +12,7 @@ ghost use Rattle.geom.specs.Plane.{no_area, outer_of, float_ok, pt_ok, rect_ok};
 
 // A point of the plane.
 #[repr(C)]
-#[derive(Clone, Copy)]
+#[derive(Clone, Copy, Debug, PartialEq)]
 pub struct Pt {
     pub x: f32,
     pub y: f32,
@@ -18,7 +20,7 @@ pub struct Pt {
 
 // A rectangle of the plane: its corner, its width and its height.
 #[repr(C)]
-#[derive(Clone, Copy)]
+#[derive(Clone, Copy, Debug, PartialEq)]
 pub struct Rect {
     pub x: f32,
     pub y: f32,
@@ -28,7 +30,7 @@ pub struct Rect {
 
 // A box of pixels, half-open: x1 and y1 are the first column and row past it.
 #[repr(C)]
-#[derive(Clone, Copy)]
+#[derive(Clone, Copy, Debug, PartialEq, Eq)]
 pub struct IRect {
     pub x0: i32,
     pub y0: i32,
@@ -169,7 +171,7 @@ pub fn min_i(a: i32, b: i32) -> i32
 pub fn nat_of(z: i32) -> usize
     ensures { result ≡ up z }
 {
-    if z < 0 { 0 } else { z as usize }
+    usize::try_from(z).unwrap_or(0)
 }
 
 impl IRect {
