@@ -4,8 +4,8 @@
 ghost use Rattle.std.specs.Prelude.{◌≡◌, length};
 ghost use Rattle.io.specs.Counts.{IsPrefixLen};
 
+use input::read_full;
 use std::io;
-use std::io::Read;
 use text::text;
 
 // One byte more than the longest sheet has, so that a longer one is seen to be too long.
@@ -34,21 +34,6 @@ fn letters() -> [u8; 147456]
     ensures { 147456 ≡ length result }
 {
     [0; 147456]
-}
-
-// Reads until buf is full or the input ends, and returns how many bytes it put at the start of buf. A read that fails ends the input.
-fn read_full(input: &mut impl Read, buf: &mut [u8]) -> usize
-    ensures { IsPrefixLen result buf.new }
-{
-    let mut done = 0;
-    while done < buf.len() {
-        let n = input.read(&mut buf[done..]).unwrap_or(0);
-        if n == 0 {
-            break;
-        }
-        done += n;
-    }
-    done
 }
 
 fn main(rt: HostRuntime) -> io::Result<()> {

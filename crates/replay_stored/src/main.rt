@@ -5,9 +5,9 @@
 ghost use Rattle.std.specs.Prelude.{◌≡◌, length};
 ghost use Rattle.io.specs.Counts.{IsPrefixLen};
 
+use input::read_full;
 use leaves::{ALL, Tally, count};
 use std::fs::File;
-use std::io::Read;
 use std::rt::{Env, Files};
 use std::{io, str};
 
@@ -16,21 +16,6 @@ fn buffer() -> [u8; 420000]
     ensures { 420000 ≡ length result }
 {
     [0; 420000]
-}
-
-// Reads until buf is full or the input ends, and returns how many bytes it put at the start of buf. A read that fails ends the input.
-fn read_full(input: &mut impl Read, buf: &mut [u8]) -> usize
-    ensures { IsPrefixLen result buf.new }
-{
-    let mut done = 0;
-    while done < buf.len() {
-        let n = input.read(&mut buf[done..]).unwrap_or(0);
-        if n == 0 {
-            break;
-        }
-        done += n;
-    }
-    done
 }
 
 // Reads a file; no bytes where it is missing, or where its name is no text.

@@ -1,6 +1,6 @@
--- `paintsheet::read_full` meets its contract. The first `done` bytes of buf are read. Assumes nothing.
+-- `input::read_full` meets its contract. The first `done` bytes of buf are read. Assumes nothing.
 use Rattle.std.proofs.Common.{length, ◌-◌, ◌≤◌}
-use Rattle.paintsheet.proofs.read_full.Given as goal
+use Rattle.input.proofs.read_full.Given as goal
 
 abbrev pub invariant-loop-done : goal.invariant-loop-done
 invariant-loop-done g l = l.done ≤ length l.buf
