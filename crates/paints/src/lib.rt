@@ -62,18 +62,6 @@ fn along_radius(c: Pt, r: f32, x: f32, y: f32) -> f32
     mathf::sqrt(dx * dx + dy * dy) / mathf::max(r, 0.001)
 }
 
-fn pts_ok(p: Pt, q: Pt) -> bool
-    ensures { result ≡ (pt_ok p && pt_ok q) }
-{
-    p.in_range() & q.in_range()
-}
-
-fn circle_ok(c: Pt, r: f32) -> bool
-    ensures { result ≡ (pt_ok c && float_ok r) }
-{
-    c.in_range() & float_ok(r)
-}
-
 impl Paint {
     // The colour of a paint at a point.
     pub fn at(self, x: f32, y: f32) -> Color
@@ -88,36 +76,26 @@ impl Paint {
     }
 
     // The paint as the points of a row have it: a vertical gradient has one colour there.
+    #[tactic(auto, unfolding(crate::specs::Paints::row_paint))]
     pub fn in_row(self, y: f32) -> Paint
         ensures { result ≡ row_paint self y }
     {
         match self {
-            Paint::Solid(c) => Paint::Solid(c),
             Paint::VGrad { y0, y1, c0, c1 } => Paint::Solid(c0.mix(c1, along_down(y0, y1, y))),
-            Paint::Linear { p0, p1, c0, c1 } => Paint::Linear { p0, p1, c0, c1 },
-            Paint::Radial { c, r, c0, c1 } => Paint::Radial { c, r, c0, c1 },
+            other => other,
         }
     }
 
     // Whether every float of a paint is finite and within 8,192 of 0: refusal 6 is given for any other.
+    #[tactic(auto, unfolding(crate::specs::Paints::paint_ok))]
     pub fn in_range(self) -> bool
         ensures { result ≡ paint_ok self }
     {
         match self {
             Paint::Solid(_) => true,
-            Paint::VGrad {
-                y0,
-                y1,
-                c0: _,
-                c1: _,
-            } => floats_ok(y0, y1),
-            Paint::Linear {
-                p0,
-                p1,
-                c0: _,
-                c1: _,
-            } => pts_ok(p0, p1),
-            Paint::Radial { c, r, c0: _, c1: _ } => circle_ok(c, r),
+            Paint::VGrad { y0, y1, .. } => floats_ok(y0, y1),
+            Paint::Linear { p0, p1, .. } => p0.in_range() & p1.in_range(),
+            Paint::Radial { c, r, .. } => c.in_range() & float_ok(r),
         }
     }
 }
