@@ -15,6 +15,7 @@ pub struct Edge {
 }
 
 // A squared distance just over half a pixel outside.
+#[tactic(auto, unfolding(crate::specs::Edges::far_of))]
 fn far_of(r: f32) -> f32
     ensures { result ≡ far_of r }
 {
@@ -28,6 +29,7 @@ fn far_of(r: f32) -> f32
 }
 
 // A squared distance just over half a pixel inside.
+#[tactic(auto, unfolding(crate::specs::Edges::near_of))]
 fn near_of(r: f32) -> f32
     ensures { result ≡ near_of r }
 {
@@ -41,6 +43,7 @@ fn near_of(r: f32) -> f32
 }
 
 // The same as `cov8`, worked out only within half a pixel of the edge.
+#[tactic(auto, using(crate::proofs::Covers::half_outside, crate::proofs::Covers::half_inside))]
 pub fn side_cover(d: f32) -> u32
     ensures { result ≡ cov8_of d }
 {
@@ -65,6 +68,7 @@ impl Edge {
     }
 
     // The coverage of a point that lies dx across and dy down.
+    #[tactic(auto, unfolding(crate::specs::Edges::edge_cover))]
     pub fn cover(self, dx: f32, dy: f32) -> u32
         ensures { result ≡ edge_cover self dx dy }
     {
@@ -80,6 +84,7 @@ impl Edge {
 
     // The coverage by a rounded rectangle, from how far a point is past the straight parts of the sides; `level` is that of its
     // row beside the corners.
+    #[tactic(auto, unfolding(crate::specs::Edges::beside_of))]
     pub fn beside(self, qx: f32, qy: f32, level: u32) -> u32
         ensures { result ≡ beside_of self qx qy level }
     {

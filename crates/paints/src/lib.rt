@@ -38,6 +38,7 @@ pub enum Paint {
 }
 
 // How far down a vertical gradient a row lies.
+#[tactic(auto, unfolding(crate::specs::Paints::along_down))]
 fn along_down(y0: f32, y1: f32, y: f32) -> f32
     ensures { result ≡ along_down y0 y1 y }
 {
@@ -45,6 +46,7 @@ fn along_down(y0: f32, y1: f32, y: f32) -> f32
 }
 
 // How far along a linear gradient a point lies.
+#[tactic(auto, unfolding(crate::specs::Paints::along_line))]
 pub fn along_line(p0: Pt, p1: Pt, x: f32, y: f32) -> f32
     ensures { result ≡ along_line p0 p1 x y }
 {
@@ -54,6 +56,7 @@ pub fn along_line(p0: Pt, p1: Pt, x: f32, y: f32) -> f32
 }
 
 // How far from the centre of a radial gradient a point lies.
+#[tactic(auto, unfolding(crate::specs::Paints::along_radius))]
 fn along_radius(c: Pt, r: f32, x: f32, y: f32) -> f32
     ensures { result ≡ along_radius c r x y }
 {
@@ -64,6 +67,7 @@ fn along_radius(c: Pt, r: f32, x: f32, y: f32) -> f32
 
 impl Paint {
     // The colour of a paint at a point.
+    #[tactic(auto, unfolding(crate::specs::Paints::paint_at))]
     pub fn at(self, x: f32, y: f32) -> Color
         ensures { result ≡ paint_at self x y }
     {
@@ -108,6 +112,7 @@ pub fn centre(i: u16) -> f32
 }
 
 // The radius of a rectangle's corners: at most half of each side, at least 0.
+#[tactic(auto, unfolding(crate::specs::Paints::radius_of))]
 pub fn radius(rect: Rect, r: f32) -> f32
     ensures { result ≡ radius_of rect r }
 {
@@ -121,6 +126,7 @@ pub fn both_positive(a: f32, b: f32) -> bool
 }
 
 // The distance from how far a point is past the straight parts of the sides, rounded by r.
+#[tactic(auto, unfolding(crate::specs::Paints::corner_sd))]
 pub fn corner_sd(qx: f32, qy: f32, r: f32) -> f32
     ensures { result ≡ corner_sd qx qy r }
 {
@@ -134,6 +140,7 @@ pub fn corner_sd(qx: f32, qy: f32, r: f32) -> f32
 }
 
 // The signed distance of a point to a rounded rectangle, negative inside.
+#[tactic(auto, unfolding(crate::specs::Paints::rrect_sd))]
 pub fn rrect_sd(px: f32, py: f32, cx: f32, cy: f32, hw: f32, hh: f32, r: f32) -> f32
     ensures { result ≡ rrect_sd px py cx cy hw hh r }
 {
@@ -182,6 +189,7 @@ impl Rounded {
 }
 
 // The coverage, 0 to 255, of a pixel whose centre lies at a signed distance of an edge.
+#[tactic(auto, unfolding(crate::specs::Paints::cov8_of))]
 pub fn cov8(d: f32) -> u32
     ensures { result ≡ cov8_of d }
 {
