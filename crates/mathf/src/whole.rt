@@ -50,10 +50,8 @@ pub fn ceil(x: f32) -> f32
 pub fn floor_i(x: f32) -> i32
     ensures { result ≡ to_i32 (floor_of x) }
 {
-    if x > 0.0 {
-        if x < 8388608.0 {
-            return cut(x) as i32;
-        }
+    if x > 0.0 && x < 8388608.0 {
+        return cut(x) as i32;
     }
     to_i32(floor(x))
 }
@@ -62,15 +60,12 @@ pub fn floor_i(x: f32) -> i32
 pub fn ceil_i(x: f32) -> i32
     ensures { result ≡ to_i32 (ceil_of x) }
 {
-    if x > 0.0 {
-        if x < 8388608.0 {
-            let n = f32::to_bits(x + 8388608.0) - 0x4b00_0000;
-            return if (n as f32) < x {
-                (n + 1) as i32
-            } else {
-                n as i32
-            };
+    if x > 0.0 && x < 8388608.0 {
+        let n = f32::to_bits(x + 8388608.0) - 0x4b00_0000;
+        if (n as f32) < x {
+            return (n + 1) as i32;
         }
+        return n as i32;
     }
     to_i32(ceil(x))
 }

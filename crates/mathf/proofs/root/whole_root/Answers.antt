@@ -1,4 +1,4 @@
--- `mathf::root::whole_root` meets its contract. The loop's invariant: the root lies from r up to, and without, r + 2 ^ i. The measure is i. Assumes nothing.
+-- `mathf::root::whole_root` meets its contract. The loop's invariant: the root lies from r up to, and without, r + 2 ^ i. Assumes nothing.
 use Rattle.std.proofs.Common.{◌+◌, ◌^◌, ◌≤◌, arith}
 use Rattle.mathf.proofs.Roots.{half, loop_root, tried_fits, up_fits, up_under, down_fits, down_under, square_fits}
 use Rattle.mathf.proofs.root.whole_root.Goals.{In-loop-i}

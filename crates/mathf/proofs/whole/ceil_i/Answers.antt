@@ -33,9 +33,9 @@ pub overflow_cast-result : goal.overflow_cast-result
 unfolding of_bits
 overflow_cast-result c = omega (arith, place_few _ (here (goal.at.overflow_cast-result c).Then-x-2))
 
-pub overflow_cast-result-else-n-x : goal.overflow_cast-result-else-n-x
+pub overflow_cast-result-then-x-2 : goal.overflow_cast-result-then-x-2
 unfolding of_bits
-overflow_cast-result-else-n-x c = omega (arith, place_few _ (here (goal.at.overflow_cast-result-else-n-x c).Then-x-2))
+overflow_cast-result-then-x-2 c = omega (arith, place_few _ (here (goal.at.overflow_cast-result-then-x-2 c).Then-x-2))
 
 pub returns-then-n-x : goal.returns-then-n-x
 unfolding of_bits
@@ -43,10 +43,10 @@ returns-then-n-x c =
     let t = here (goal.at.returns-then-n-x c).Then-x-2 in
     to_z_pos w32 (omega (arith, place_few _ t)) ∙ place_short _ t c.if-n-x.true
 
-pub returns-else-n-x : goal.returns-else-n-x
+pub returns-then-x-2 : goal.returns-then-x-2
 unfolding of_bits
-returns-else-n-x c =
-    let t = here (goal.at.returns-else-n-x c).Then-x-2 in
+returns-then-x-2 c =
+    let t = here (goal.at.returns-then-x-2 c).Then-x-2 in
     to_z_pos w32 (omega (arith, place_few _ t)) ∙ place_reached _ t c.if-n-x.false
 
 pub returns : goal.returns
