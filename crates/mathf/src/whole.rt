@@ -40,6 +40,7 @@ pub fn floor(x: f32) -> f32
     }
 }
 
+#[tactic(auto, using(crate::proofs::Floors::ceil_is))]
 pub fn ceil(x: f32) -> f32
     ensures { result ≡ ceil_of x }
 {
