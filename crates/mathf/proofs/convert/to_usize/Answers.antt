@@ -24,9 +24,6 @@ truncating_f32_to_u64-requires c = record { lower_bound = (above-it c).low; uppe
 pub returns-then-x : goal.returns-then-x
 returns-then-x c = c.cut.ensures ∙ (here (goal.at.returns-then-x c).After-from_zero).same
 
-pub returns-then-x-2 : goal.returns-then-x-2
-returns-then-x-2 c = c.truncating_f32_to_u64.ensures ∙ (above-it (goal.at.returns-then-x-2 c).Then-x-2).same
-
 pub returns-then-x-3 : goal.returns-then-x-3
 unfolding of_bits
 returns-then-x-3 c = top 64 _ c.if-x-3.true c.if-x-2.false

@@ -1,13 +1,9 @@
 -- `mathf::root::root_scaled` meets its contract, by the laws of `Scaled`. Assumes nothing.
-use Rattle.std.proofs.Common.{◌≡◌, ℕ, ◌^◌, ◌<◌, ◌≤◌, sym, refl, ap, ◌∙◌, subst, lt_trans, arith, lit<}
+use Rattle.std.proofs.Common.{◌≡◌, ℕ, ◌^◌, ◌<◌, sym, refl, ap, ◌∙◌, subst, lt_trans, arith, lit<}
 use Rattle.mathf.specs.Root.{near_root}
-use Rattle.mathf.proofs.Scaled.{zeros_of, scaled_of, eight_zeros, few_zeros, scaled_small, scaled_high, shifted, near_high, scaled_answer}
+use Rattle.mathf.proofs.Scaled.{scaled_of, eight_zeros, scaled_small, scaled_high, shifted, near_high, scaled_answer}
 use Rattle.mathf.proofs.root.root_scaled.Goals.{After-near_root, Start}
 use Rattle.mathf.proofs.root.root_scaled.Goals as goal
-
--- at most 23 zeros above a significand that is not 0
-few : (c : Start) → zeros_of c.args.sig ≤ 23
-few c = few_zeros c.args.sig c.args.e c.requires.sig_nonzero c.requires.sig_bound c.requires.e_bound
 
 -- what `near_root` gave is the nearest root of the scaled significand, and has 24 digits
 near : (c : After-near_root) → c.near_root.result ≡ near_root (scaled_of c.args.sig c.args.e)
@@ -20,21 +16,6 @@ near-lt c =
 
 pub overflow_sub-zeros : goal.overflow_sub-zeros
 overflow_sub-zeros c = eight_zeros c.args.sig c.args.e c.requires.sig_nonzero c.requires.sig_bound c.requires.e_bound
-
-pub overflow_sub-digits : goal.overflow_sub-digits
-overflow_sub-digits c = omega (arith, few c)
-
-pub overflow_add-m : goal.overflow_add-m
-overflow_add-m c = omega (arith, few c)
-
-pub overflow_add-m-2 : goal.overflow_add-m-2
-overflow_add-m-2 c = omega (arith, few c)
-
-pub overflow_cast-m-2 : goal.overflow_cast-m-2
-overflow_cast-m-2 c = omega (arith, few c)
-
-pub overflow_shl-m : goal.overflow_shl-m
-overflow_shl-m c = omega (arith, few c)
 
 pub near_root-requires : goal.near_root-requires
 near_root-requires c =

@@ -4,17 +4,13 @@ use lib.Ieee.{binary32, of_bits, div, fits}
 use lib.Ieee.Bits.{of_bits-to_bits}
 use Rattle.mathf.specs.Root.{sqrt_of}
 use Rattle.mathf.proofs.Saturating.{passed, failed}
-use Rattle.mathf.proofs.Patterns.{above_no_nan, above_bits, from_no_nan, top_root, no_root, still_root}
+use Rattle.mathf.proofs.Patterns.{above_bits, from_no_nan, top_root, no_root, still_root}
 use Rattle.mathf.proofs.root.sqrt.Goals.{Start}
 use Rattle.mathf.proofs.root.sqrt.Goals as goal
 
 -- a parameter is a value of its format
 fit : (c : Start) → T (fits binary32 c.args.x)
 fit c = search rules
-
-pub float_to_bits-b : goal.float_to_bits-b
-unfolding of_bits
-float_to_bits-b c = above_no_nan _ c.args.x (passed c.if-x.true)
 
 pub root_bits-requires : goal.root_bits-requires
 unfolding of_bits

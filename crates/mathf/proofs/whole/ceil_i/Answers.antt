@@ -1,8 +1,8 @@
 -- `mathf::whole::ceil_i` meets its contract, by the law of `Sums`. Assumes nothing.
-use Rattle.std.proofs.Common.{ap, ◌∙◌, inl, arith, to_z-of_z, w32}
-use lib.Ieee.{of_bits, to_signed}
+use Rattle.std.proofs.Common.{◌∙◌, inl, arith, w32}
+use lib.Ieee.{of_bits}
 use mir.Facts.{to_z_pos}
-use Rattle.mathf.proofs.Saturating.{passed, signed_fits}
+use Rattle.mathf.proofs.Saturating.{passed}
 use Rattle.mathf.proofs.Floors.{in_float_lem}
 use Rattle.mathf.proofs.Sums.{Near, near, place_few, place_short, place_reached}
 use Rattle.mathf.proofs.whole.ceil_i.Goals.{Then-x-2}
@@ -48,6 +48,3 @@ unfolding of_bits
 returns-then-x-2 c =
     let t = here (goal.at.returns-then-x-2 c).Then-x-2 in
     to_z_pos w32 (omega (arith, place_few _ t)) ∙ place_reached _ t c.if-n-x.false
-
-pub returns : goal.returns
-returns c = to_z-of_z (signed_fits w32 _ c.to_i32.ensures) ∙ c.to_i32.ensures ∙ ap (to_signed 31) c.ceil.ensures

@@ -1,9 +1,9 @@
 -- `mathf::whole::floor_i` meets its contract. Assumes nothing.
-use Rattle.std.proofs.Common.{ap, ◌∙◌, inl, arith, to_z-of_z, w32}
-use lib.Ieee.{of_bits, of_int, to_signed}
+use Rattle.std.proofs.Common.{◌∙◌, inl, arith, w32}
+use lib.Ieee.{of_bits, of_int}
 use Rattle.mathf.specs.Whole.{floor_of}
 use mir.Facts.{to_z_pos}
-use Rattle.mathf.proofs.Saturating.{passed, signed_fits}
+use Rattle.mathf.proofs.Saturating.{passed}
 use Rattle.mathf.proofs.Floors.{counted, small}
 use Rattle.mathf.proofs.Bounds.{signed_as}
 use Rattle.mathf.proofs.whole.floor_i.Goals as goal
@@ -22,6 +22,3 @@ returns-then-x-2 c =
     let few = counted x c.cut.result c.cut.ensures in
     to_z_pos w32 (omega (arith, few))
     ∙ signed_as (floor_of x) c.cut.result (omega (arith, few)) (small x c.cut.result c.if-x.true c.if-x-2.true c.cut.ensures)
-
-pub returns : goal.returns
-returns c = to_z-of_z (signed_fits w32 _ c.to_i32.ensures) ∙ c.to_i32.ensures ∙ ap (to_signed 31) c.floor.ensures

@@ -1,8 +1,0 @@
--- `mathf::convert::from_zero` meets its contract, branch by branch. Assumes nothing.
-use Rattle.mathf.proofs.convert.from_zero.Goals as goal
-
-pub returns-then-x : goal.returns-then-x
-returns-then-x c = rw c.if-x.true
-
-pub returns-else-x : goal.returns-else-x
-returns-else-x c = rw c.if-x.false
