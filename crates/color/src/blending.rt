@@ -25,6 +25,7 @@ fn part255(n: u32) -> u32
 }
 
 // One channel of an ink over another, with what alpha a leaves of 255.
+#[tactic(auto, using(crate::proofs::Weights::weighted_le))]
 fn mixed(ink: u32, old: u32, a: u32, left: u32) -> u32
     requires { (ink ≤ 255) × (old ≤ 255) × (a ≤ 255) × (left ≡ 255 - a) }
     ensures { (result ≡ channel ink old a) × (result ≤ 255) }
@@ -33,6 +34,7 @@ fn mixed(ink: u32, old: u32, a: u32, left: u32) -> u32
 }
 
 // The inks of a colour over a pixel at alpha a. The remainder tells the compiler that what is left of 255 is a byte.
+#[tactic(auto, unfolding(crate::specs::Inks::blended))]
 fn mix_over(dst: u32, c: Color, a: u32) -> u32
     ensures { result ≡ Inks.over dst c a }
 {
@@ -59,6 +61,7 @@ pub fn over(dst: u32, c: Color, a: u32) -> Inked
 }
 
 // An alpha scaled by a coverage; a coverage of 255 or more keeps it.
+#[tactic(auto, unfolding(crate::specs::Inks::covered_by))]
 fn covered(a: u8, cov: u32) -> u32
     ensures { result ≡ covered_by a cov }
 {
@@ -91,6 +94,7 @@ fn chosen(dst: u32, ink: u32, mix: u32, a: u32) -> u32
 
 // The same as `over`, for a loop whose alpha differs from pixel to pixel: the mix of a byte is worked out first, then chosen or
 // not, so that several pixels can be done at once.
+#[tactic(auto, using(crate::proofs::Overs::byte_choice), unfolding(crate::specs::Inks::blended))]
 fn mix_wide(dst: u32, c: Color, a: u32) -> u32
     ensures { result ≡ Inks.over dst c a }
 {
@@ -114,6 +118,7 @@ pub fn over_wide(dst: u32, c: Color, a: u32) -> Inked
 }
 
 // The same as `covered` and `blend_c`, for such a loop.
+#[tactic(auto, unfolding(crate::specs::Inks::covered_by))]
 fn covered_wide(a: u8, cov: u32) -> u32
     ensures { result ≡ covered_by a cov }
 {
@@ -135,6 +140,7 @@ const REFUSED: BlendAnswer = BlendAnswer {
 };
 
 // The blend of any three inks. An ink over 255 is refused, whatever the alpha.
+#[tactic(auto, unfolding(crate::specs::Inks::blend_of))]
 pub fn blend(dst: u32, r: u32, g: u32, b: u32, a: u32) -> BlendAnswer
     ensures { result ≡ blend_of dst r g b a }
 {

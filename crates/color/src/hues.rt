@@ -19,6 +19,7 @@ fn tones(r: f32, g: f32, b: f32) -> Color
 }
 
 // The colour of sector i of the circle of hues.
+#[tactic(auto, using(crate::proofs::Sectors::sector_is, crate::proofs::Sectors::sector_last), unfolding(crate::specs::Colours::sector_of))]
 fn sector(i: i32, v: f32, p: f32, q: f32, t: f32) -> Color
     ensures { result ≡ sector_of i v p q t }
 {
@@ -33,6 +34,7 @@ fn sector(i: i32, v: f32, p: f32, q: f32, t: f32) -> Color
 }
 
 // h in degrees, s and v from 0 to 1.
+#[tactic(auto, unfolding(crate::specs::Colours::hsv_of))]
 pub fn hsv(h: f32, s: f32, v: f32) -> Color
     ensures { result ≡ hsv_of h s v }
 {

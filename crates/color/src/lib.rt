@@ -107,6 +107,7 @@ impl Color {
         Color::hex(p)
     }
 
+    #[tactic(auto, unfolding(crate::specs::Colours::mix_of))]
     pub fn mix(self, o: Color, t: f32) -> Color
         ensures { result ≡ mix_of self o t }
     {

@@ -25,6 +25,7 @@ fn only_green(p: u32) -> u32
 }
 
 // 256 parts of two numbers, t of them the second's.
+#[tactic(auto, using(crate::proofs::Weights::weighted_le))]
 fn parts(x: u32, y: u32, t: u32) -> u32
     requires { (x ≤ 0x00ff_00ff) × (y ≤ 0x00ff_00ff) × (t ≤ 256) }
     ensures { result ≡ mixed256 x y t }
@@ -33,6 +34,7 @@ fn parts(x: u32, y: u32, t: u32) -> u32
 }
 
 // Two channels a multiply: they lie 16 places apart, and 256 parts of a channel fit into 16.
+#[tactic(auto, using(crate::proofs::Parts::red_blue_mixed))]
 fn mix_red_blue(a: u32, b: u32, t: u32) -> u32
     requires { t ≤ 256 }
     ensures { result ≡ mixed256 (red a) (red b) t * 65536 + mixed256 (blue a) (blue b) t }
@@ -40,6 +42,7 @@ fn mix_red_blue(a: u32, b: u32, t: u32) -> u32
     red_blue(parts(red_blue(a), red_blue(b), t))
 }
 
+#[tactic(auto, using(crate::proofs::Parts::green_mixed))]
 fn mix_green(a: u32, b: u32, t: u32) -> u32
     requires { t ≤ 256 }
     ensures { result ≡ mixed256 (green a) (green b) t * 256 }
@@ -48,6 +51,7 @@ fn mix_green(a: u32, b: u32, t: u32) -> u32
 }
 
 // Two pixels mixed, t256 of 256 parts the second.
+#[tactic(auto, using(crate::proofs::Parts::mixed_fits), unfolding(crate::specs::Colours::mix_pix_of))]
 pub fn mix_pix(a: u32, b: u32, t256: u32) -> u32
     ensures { result ≡ mix_pix_of a b t256 }
 {

@@ -31,6 +31,7 @@ fn rest(h: f32) -> f32
     h - h
 }
 
+#[tactic(auto, using(crate::proofs::Remainders::upright, crate::proofs::Remainders::turned_over))]
 pub(crate) fn turned(h: f32) -> f32
     ensures { result ≡ h %ᶠ f360 }
 {

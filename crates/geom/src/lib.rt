@@ -39,6 +39,7 @@ pub struct IRect {
 }
 
 // Finite and -8,192 to 8,192: a NaN fails both tests.
+#[tactic(auto, unfolding(crate::specs::Plane::float_ok))]
 pub fn float_ok(x: f32) -> bool
     ensures { result ≡ float_ok x }
 {
@@ -59,6 +60,7 @@ impl Pt {
     }
 
     // Both numbers are within the limit of a shape or clip call.
+    #[tactic(auto, unfolding(crate::specs::Plane::pt_ok))]
     pub fn in_range(self) -> bool
         ensures { result ≡ pt_ok self }
     {
@@ -119,6 +121,7 @@ impl Rect {
         Rect::new(self.x + dx, self.y + dy, self.w, self.h)
     }
 
+    #[tactic(auto, unfolding(crate::specs::Plane::intersect_of))]
     pub fn intersect(self, o: Rect) -> Rect
         ensures { result ≡ intersect_of self o }
     {
@@ -129,6 +132,7 @@ impl Rect {
         Rect::new(x0, y0, mathf::max(x1 - x0, 0.0), mathf::max(y1 - y0, 0.0))
     }
 
+    #[tactic(auto, unfolding(crate::specs::Plane::union_of))]
     pub fn union(self, o: Rect) -> Rect
         ensures { result ≡ union_of self o }
     {
@@ -139,6 +143,7 @@ impl Rect {
         Rect::new(x0, y0, x1 - x0, y1 - y0)
     }
 
+    #[tactic(auto, unfolding(crate::specs::Plane::no_area))]
     pub fn is_empty(self) -> bool
         ensures { result ≡ no_area self }
     {
@@ -146,6 +151,7 @@ impl Rect {
     }
 
     // All four numbers are within the limit of a shape or clip call.
+    #[tactic(auto, unfolding(crate::specs::Plane::rect_ok))]
     pub fn in_range(self) -> bool
         ensures { result ≡ rect_ok self }
     {
@@ -185,6 +191,7 @@ impl IRect {
         IRect { x0, y0, x1, y1 }
     }
 
+    #[tactic(auto, using(crate::proofs::Signed::kept), unfolding(crate::specs::Box::empty))]
     pub fn is_empty(self) -> bool
         ensures { result ≡ empty self }
     {
@@ -192,6 +199,7 @@ impl IRect {
     }
 
     // Every pixel that the rectangle touches: floors of x and y, ceilings of right and bottom.
+    #[tactic(auto, using(crate::proofs::Signed::kept), unfolding(crate::specs::Plane::outer_of))]
     pub fn from_rect_outer(r: Rect) -> IRect
         ensures { result ≡ outer_of r }
     {

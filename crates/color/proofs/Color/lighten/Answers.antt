@@ -1,6 +1,0 @@
--- `color::Color::lighten` meets its contract. Assumes nothing.
-use mathlib.Core.Path.{◌∙◌}
-use Rattle.color.proofs.Color.lighten.Goals as goal
-
-pub returns : goal.returns
-returns c = c.mix.ensures ∙ rw c.rgba.ensures
