@@ -2,15 +2,16 @@
 // many pixels' values it altered.
 #![tactic(auto)]
 
-ghost use Rattle.std.specs.Prelude.{◌≡◌, Bool, ◌+◌, ◌≤◌, min, max, Float, length};
+ghost use Rattle.std.specs.Prelude.{◌≡◌, ◌≤◌, Float, length};
 ghost use Rattle.mathf.specs.F32.{f0};
 ghost use Rattle.mathf.specs.Convert.{to_i32};
 ghost use Rattle.geom.specs.Int.{up};
 ghost use Rattle.color.specs.Colours.{pix_of};
+ghost use Rattle.color.specs.Inks.{inked_of, over_c};
 ghost use Rattle.draw.specs.Draw.{drawn};
-ghost use Rattle.draw.specs.Areas.{RowFits, AreaFits, DrewRow, DrewIn};
+ghost use Rattle.draw.specs.Areas.{SpanFits, AreaFits, DrewSpan, DrewIn};
 ghost use Rattle.gfx.specs.Calls.{ShapeCalled, px_number};
-ghost use Rattle.paints.specs.declared.Paint.TheVariants.{Solid, Linear};
+ghost use Rattle.paints.specs.declared.Paint.TheVariants.{Solid};
 ghost use Rattle.paints.specs.Paints.{paint_at, centre_of};
 ghost use Rattle.paints.specs.Edges.{edge_of};
 ghost use Rattle.fill.specs.Fill.{fill_reach, edge_row, corner_row, cover_of, rim_ink, middle_ink, round_ink, fill_ink};
@@ -18,9 +19,9 @@ ghost use Rattle.fill.specs.Fill.{Filled, rrect_floats, rect_floats, circle_floa
 ghost use Rattle.paints.specs.Paints.{circle_rect};
 ghost use Rattle.fill.specs.Rows.{ends_of, Ready, clamped_of, Cuts, past_of, LevelOf};
 
-use color::{Color, blend_c, over, put};
-use draw::{Area, clipped};
-use geom::{IRect, Pt, Rect, float_ok, nat_of};
+use color::{Color, Inked, blend_c, over, put};
+use draw::{Area, Span, clipped};
+use geom::{IRect, Rect, float_ok, nat_of};
 use gfx::{Canvas, Counted};
 use paints::{Edge, Paint, along_line, centre, radius, side_cover};
 
@@ -100,44 +101,32 @@ fn round_of(rect: Rect, r: f32) -> Round
     }
 }
 
-// v brought to lo up to hi.
-fn between(v: usize, lo: usize, hi: usize) -> usize
-    requires { lo ≤ hi }
-    ensures { result ≡ max lo (min v hi) }
-{
-    if v < lo {
-        lo
-    } else if v < hi {
-        v
-    } else {
-        hi
-    }
-}
-
 // Ends brought to the columns x0 up to x1.
 fn clamped(e: Ends, x0: usize, x1: usize) -> Ends
-    requires { x0 ≤ x1 }
     ensures { result ≡ clamped_of e x0 x1 }
 {
-    let le = between(e.le, x0, x1);
-    let rs = between(e.rs, le, x1);
+    let le = e.le.min(x1).max(x0);
+    let rs = e.rs.min(x1).max(le);
     Ends { le, rs }
 }
 
-// Where row y is cut, between the columns x0 and x1: an edge row has no middle.
-fn cut_row(s: Round, y: usize, x0: usize, x1: usize) -> Ends
-    requires { (x0 ≤ x1) × (y ≤ 2048) × Ready s }
-    ensures { Cuts s.rect s.edge.r y x0 x1 result }
+// Where a row is cut: an edge row has no middle.
+fn cut_row(s: Round, row: Span) -> Ends
+    requires { (row.x0 ≤ row.x1) × (row.y ≤ 2048) × Ready s }
+    ensures { Cuts s.rect s.edge.r row.y row.x0 row.x1 result }
 {
     let rect = s.rect;
-    let yc = centre(y as u16);
+    let yc = centre(row.y as u16);
     if edge_row(rect, yc) {
-        return Ends { le: x1, rs: x1 };
+        return Ends {
+            le: row.x1,
+            rs: row.x1,
+        };
     }
     if corner_row(rect, s.edge.r, yc) {
-        return clamped(s.bent, x0, x1);
+        return clamped(s.bent, row.x0, row.x1);
     }
-    clamped(s.straight, x0, x1)
+    clamped(s.straight, row.x0, row.x1)
 }
 
 // How far p is past the straight part of a side, from c to a corner of radius r and then h.
@@ -154,10 +143,12 @@ struct Level {
     level: u32,
 }
 
-fn level_of(rect: Rect, r: f32, y: usize) -> Level
+fn level_of(s: Round, y: usize) -> Level
     requires { y ≤ 2048 }
-    ensures { LevelOf rect r (centre_of y) result }
+    ensures { LevelOf s.rect s.edge.r (centre_of y) result }
 {
+    let rect = s.rect;
+    let r = s.edge.r;
     let qy = past(centre(y as u16), rect.cy(), rect.h * 0.5, r);
     Level {
         qy,
@@ -165,12 +156,13 @@ fn level_of(rect: Rect, r: f32, y: usize) -> Level
     }
 }
 
-// The coverage of a point of such a row, whose corners have the edge e.
-fn level_cover(rect: Rect, e: Edge, l: Level, xc: f32) -> u32
-    ensures { (yc : Float) → e ≡ edge_of e.r → LevelOf rect e.r yc l → result ≡ cover_of rect e.r xc yc }
+// The coverage of a point of such a row.
+fn level_cover(s: Round, l: Level, xc: f32) -> u32
+    ensures { (yc : Float) → Ready s → LevelOf s.rect s.edge.r yc l → result ≡ cover_of s.rect s.edge.r xc yc }
 {
-    let qx = past(xc, rect.cx(), rect.w * 0.5, e.r);
-    e.beside(qx, l.qy, l.level)
+    let rect = s.rect;
+    let qx = past(xc, rect.cx(), rect.w * 0.5, s.edge.r);
+    s.edge.beside(qx, l.qy, l.level)
 }
 
 // The colour of a paint at a point; a plain colour costs no call.
@@ -183,219 +175,101 @@ fn colour_at(paint: Paint, xc: f32, yc: f32) -> Color
     }
 }
 
-// Columns of row y by coverage: a root is taken only near the edge.
-fn rim(
-    px: &mut [u32],
-    pitch: usize,
-    y: usize,
-    x0: usize,
-    x1: usize,
-    rect: Rect,
-    e: Edge,
-    l: Level,
-    paint: Paint,
-) -> u32
-    requires { RowFits pitch y x0 x1 (length px.old) × (e ≡ edge_of e.r) × LevelOf rect e.r (centre_of y) l }
-    ensures { DrewRow pitch y x0 x1 (rim_ink rect e.r paint) px.old result px.new }
+// A pixel around xc and yc by coverage, from its value p: a root is taken only near the edge.
+fn rim_pixel(s: Round, l: Level, paint: Paint, xc: f32, yc: f32, p: u32) -> Inked
+    requires { Ready s × LevelOf s.rect s.edge.r yc l }
+    ensures { result ≡ inked_of p (over_c p (paint_at paint xc yc) (cover_of s.rect s.edge.r xc yc)) }
 {
-    let row = y * pitch;
-    let yc = centre(y as u16);
-    let mut n = 0;
-    for x in x0..x1 {
-        let xc = centre(x as u16);
-        let cv = level_cover(rect, e, l, xc);
-        if cv == 0 {
-            continue;
-        }
-        let c = colour_at(paint, xc, yc);
-        let i = row + x;
-        let q = blend_c(px[i], c, cv);
-        px[i] = q.value;
-        n += q.altered as u32;
+    let cv = level_cover(s, l, xc);
+    if cv == 0 {
+        return put(p, p);
     }
-    n
+    blend_c(p, colour_at(paint, xc, yc), cv)
 }
 
-// Columns of row y set to one value.
-fn store_span(px: &mut [u32], pitch: usize, y: usize, x0: usize, x1: usize, v: u32) -> u32
-    requires { RowFits pitch y x0 x1 (length px.old) }
-    ensures { DrewRow pitch y x0 x1 (λ _ _ _. v) px.old result px.new }
+// Columns of a row by coverage.
+fn rim(px: &mut [u32], row: Span, s: Round, l: Level, paint: Paint) -> u32
+    requires { SpanFits row (length px.old) × Ready s × LevelOf s.rect s.edge.r (centre_of row.y) l }
+    ensures { DrewSpan row (rim_ink s.rect s.edge.r paint) px.old result px.new }
 {
-    let row = y * pitch;
-    let mut n = 0;
-    for x in x0..x1 {
-        let i = row + x;
-        let q = put(px[i], v);
-        px[i] = q.value;
-        n += q.altered as u32;
-    }
-    n
+    let yc = centre(row.y as u16);
+    row.draw(px, |x, p| rim_pixel(s, l, paint, centre(x as u16), yc, p))
 }
 
-// Columns of row y under a colour.
-fn over_span(px: &mut [u32], pitch: usize, y: usize, x0: usize, x1: usize, c: Color) -> u32
-    requires { RowFits pitch y x0 x1 (length px.old) }
-    ensures { DrewRow pitch y x0 x1 (middle_ink (Solid c)) px.old result px.new }
+// Columns of a row set to one value.
+fn store_span(px: &mut [u32], row: Span, v: u32) -> u32
+    requires { SpanFits row (length px.old) }
+    ensures { DrewSpan row (λ _ _ _. v) px.old result px.new }
 {
-    let row = y * pitch;
-    let a = c.a as u32;
-    let mut n = 0;
-    for x in x0..x1 {
-        let i = row + x;
-        let q = over(px[i], c, a);
-        px[i] = q.value;
-        n += q.altered as u32;
-    }
-    n
+    row.draw(px, |_, p| put(p, v))
 }
 
-// Columns of row y under a linear gradient.
-fn line_span(
-    px: &mut [u32],
-    pitch: usize,
-    y: usize,
-    x0: usize,
-    x1: usize,
-    p0: Pt,
-    p1: Pt,
-    c0: Color,
-    c1: Color,
-) -> u32
-    requires { RowFits pitch y x0 x1 (length px.old) }
-    ensures { DrewRow pitch y x0 x1 (middle_ink (Linear p0 p1 c0 c1)) px.old result px.new }
-{
-    let row = y * pitch;
-    let yc = centre(y as u16);
-    let mut n = 0;
-    for x in x0..x1 {
-        let c = c0.mix(c1, along_line(p0, p1, centre(x as u16), yc));
-        let i = row + x;
-        let q = over(px[i], c, c.a as u32);
-        px[i] = q.value;
-        n += q.altered as u32;
-    }
-    n
-}
-
-// Columns of row y under a paint, which is asked at each pixel.
-fn paint_span(px: &mut [u32], pitch: usize, y: usize, x0: usize, x1: usize, paint: Paint) -> u32
-    requires { RowFits pitch y x0 x1 (length px.old) }
-    ensures { DrewRow pitch y x0 x1 (middle_ink paint) px.old result px.new }
-{
-    let row = y * pitch;
-    let yc = centre(y as u16);
-    let mut n = 0;
-    for x in x0..x1 {
-        let c = paint.at(centre(x as u16), yc);
-        let i = row + x;
-        let q = over(px[i], c, c.a as u32);
-        px[i] = q.value;
-        n += q.altered as u32;
-    }
-    n
-}
-
-// Columns of row y under a colour: plain stores at full alpha, nothing at alpha 0.
-fn solid_span(px: &mut [u32], pitch: usize, y: usize, x0: usize, x1: usize, c: Color) -> u32
-    requires { RowFits pitch y x0 x1 (length px.old) }
-    ensures { DrewRow pitch y x0 x1 (middle_ink (Solid c)) px.old result px.new }
+// Columns of a row under a colour: plain stores at full alpha, nothing at alpha 0.
+fn solid_span(px: &mut [u32], row: Span, c: Color) -> u32
+    requires { SpanFits row (length px.old) }
+    ensures { DrewSpan row (middle_ink (Solid c)) px.old result px.new }
 {
     if c.a == 255 {
-        return store_span(px, pitch, y, x0, x1, c.pix());
+        return store_span(px, row, c.pix());
     }
     if c.a > 0 {
-        return over_span(px, pitch, y, x0, x1, c);
+        return row.draw(px, |_, p| over(p, c, c.a as u32));
     }
     0
 }
 
-// The middle of row y, by the kind of its paint.
-fn middle_span(px: &mut [u32], pitch: usize, y: usize, x0: usize, x1: usize, paint: Paint) -> u32
-    requires { RowFits pitch y x0 x1 (length px.old) }
-    ensures { DrewRow pitch y x0 x1 (middle_ink paint) px.old result px.new }
+// The middle of a row, by the kind of its paint.
+fn middle_span(px: &mut [u32], row: Span, paint: Paint) -> u32
+    requires { SpanFits row (length px.old) }
+    ensures { DrewSpan row (middle_ink paint) px.old result px.new }
 {
+    let yc = centre(row.y as u16);
     match paint {
-        Paint::Solid(c) => solid_span(px, pitch, y, x0, x1, c),
-        Paint::Linear { p0, p1, c0, c1 } => line_span(px, pitch, y, x0, x1, p0, p1, c0, c1),
-        _ => paint_span(px, pitch, y, x0, x1, paint),
+        Paint::Solid(c) => solid_span(px, row, c),
+        Paint::Linear { p0, p1, c0, c1 } => row.draw(px, |x, p| {
+            let c = c0.mix(c1, along_line(p0, p1, centre(x as u16), yc));
+            over(p, c, c.a as u32)
+        }),
+        _ => row.draw(px, |x, p| {
+            let c = paint.at(centre(x as u16), yc);
+            over(p, c, c.a as u32)
+        }),
     }
 }
 
-// Row y between the columns x0 and x1: rim, middle, rim.
-fn row_parts(
-    px: &mut [u32],
-    pitch: usize,
-    y: usize,
-    x0: usize,
-    x1: usize,
-    s: Round,
-    paint: Paint,
-) -> u32
-    requires { RowFits pitch y x0 x1 (length px.old) × Ready s }
-    ensures { DrewRow pitch y x0 x1 (round_ink s.rect s.edge.r paint) px.old result px.new }
+// A row by the paint as the row has it: rim, middle, rim.
+fn fill_row(px: &mut [u32], row: Span, s: Round, paint: Paint) -> u32
+    requires { SpanFits row (length px.old) × Ready s }
+    ensures { DrewSpan row (round_ink s.rect s.edge.r paint) px.old result px.new }
 {
-    let rect = s.rect;
-    let e = s.edge;
-    let c = cut_row(s, y, x0, x1);
-    let l = level_of(rect, e.r, y);
-    let lend = c.le;
-    let rstart = c.rs;
-    let left = rim(px, pitch, y, x0, lend, rect, e, l, paint);
-    let middle = middle_span(px, pitch, y, lend, rstart, paint);
-    let right = rim(px, pitch, y, rstart, x1, rect, e, l, paint);
+    let here = paint.in_row(centre(row.y as u16));
+    let Ends { le, rs } = cut_row(s, row);
+    let l = level_of(s, row.y);
+    let left = rim(px, Span { x1: le, ..row }, s, l, here);
+    let middle = middle_span(
+        px,
+        Span {
+            x0: le,
+            x1: rs,
+            ..row
+        },
+        here,
+    );
+    let right = rim(px, Span { x0: rs, ..row }, s, l, here);
     left + middle + right
 }
 
-// The same by the paint as the row has it.
-fn fill_row(
-    px: &mut [u32],
-    pitch: usize,
-    y: usize,
-    x0: usize,
-    x1: usize,
-    s: Round,
-    paint: Paint,
-) -> u32
-    requires { RowFits pitch y x0 x1 (length px.old) × Ready s }
-    ensures { DrewRow pitch y x0 x1 (round_ink s.rect s.edge.r paint) px.old result px.new }
-{
-    let here = paint.in_row(centre(y as u16));
-    row_parts(px, pitch, y, x0, x1, s, here)
-}
-
-// The rows of an area.
-fn fill_box(px: &mut [u32], pitch: usize, bb: Area, s: Round, paint: Paint) -> u32
-    requires { AreaFits pitch bb (length px.old) × Ready s }
-    ensures { DrewIn pitch bb (round_ink s.rect s.edge.r paint) px.old result px.new }
-{
-    let x0 = bb.x0;
-    let x1 = bb.x1;
-    let mut n = 0;
-    for y in bb.y0..bb.y1 {
-        n += fill_row(px, pitch, y, x0, x1, s, paint);
-    }
-    n
-}
-
-// An area of a rounded rectangle: what its rows share is worked out first.
-fn fill_all(px: &mut [u32], pitch: usize, bb: Area, rect: Rect, r: f32, paint: Paint) -> u32
-    requires { AreaFits pitch bb (length px.old) }
-    ensures { DrewIn pitch bb (fill_ink rect r paint) px.old result px.new }
-{
-    let short = radius(rect, r);
-    let s = round_of(rect, short);
-    fill_box(px, pitch, bb, s, paint)
-}
-
-// The same, where the area has rows.
+// An area of a rounded rectangle: what its rows share is worked out first, where it has rows.
 fn fill_area(px: &mut [u32], pitch: usize, bb: Area, rect: Rect, r: f32, paint: Paint) -> u32
     requires { AreaFits pitch bb (length px.old) }
     ensures { DrewIn pitch bb (fill_ink rect r paint) px.old result px.new }
 {
-    if bb.y0 < bb.y1 {
-        return fill_all(px, pitch, bb, rect, r, paint);
+    if bb.y0 >= bb.y1 {
+        return 0;
     }
-    0
+    let short = radius(rect, r);
+    let s = round_of(rect, short);
+    bb.draw(px, pitch, |px, row| fill_row(px, row, s, paint))
 }
 
 // A rounded rectangle under the clip, unless the call is refused.
@@ -458,13 +332,7 @@ fn store_box(px: &mut [u32], pitch: usize, bb: Area, v: u32) -> u32
     requires { AreaFits pitch bb (length px.old) }
     ensures { DrewIn pitch bb (λ _ _ _. v) px.old result px.new }
 {
-    let x0 = bb.x0;
-    let x1 = bb.x1;
-    let mut n = 0;
-    for y in bb.y0..bb.y1 {
-        n += store_span(px, pitch, y, x0, x1, v);
-    }
-    n
+    bb.draw(px, pitch, |px, row| store_span(px, row, v))
 }
 
 // The pixels of the clip set to a colour, as a sheet's ground is, whatever its alpha.

@@ -7,5 +7,5 @@ use Rattle.fill.proofs.level_cover.Goals as goal
 
 pub returns : goal.returns
 unfolding cover_of rrect_sd
-returns c = λ yc own k.
-    c.beside.ensures ∙ edge_beside _ _ own _ _ _ k.covered ∙ rw (k.past, c.past-qx.ensures, c.cx.ensures)
+returns c = λ yc s k.
+    c.beside.ensures ∙ edge_beside _ _ s.own _ _ _ k.covered ∙ rw (k.past, c.past-qx.ensures, c.cx.ensures)
