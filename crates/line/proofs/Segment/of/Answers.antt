@@ -1,6 +1,6 @@
--- `line::segment_of` meets its contract. Assumes nothing.
+-- `line::Segment::of` meets its contract. Assumes nothing.
 use Rattle.line.specs.Lines.{segment_of}
-use Rattle.line.proofs.segment_of.Goals as goal
+use Rattle.line.proofs.Segment.of.Goals as goal
 
 pub returns : goal.returns
 unfolding segment_of
