@@ -2,7 +2,7 @@
 // many pixels' values it altered.
 #![tactic(auto)]
 
-ghost use Rattle.std.specs.Prelude.{◌≡◌, ◌≤◌, Float, length};
+ghost use Rattle.std.specs.Prelude.{true, false, ◌≡◌, ◌≤◌, Float, length};
 ghost use Rattle.mathf.specs.F32.{f0};
 ghost use Rattle.mathf.specs.Convert.{to_i32};
 ghost use Rattle.geom.specs.Int.{up};
@@ -17,29 +17,13 @@ ghost use Rattle.paints.specs.Edges.{edge_of};
 ghost use Rattle.fill.specs.Fill.{fill_reach, edge_row, corner_row, cover_of, rim_ink, middle_ink, round_ink, fill_ink};
 ghost use Rattle.fill.specs.Fill.{Filled, rrect_floats, rect_floats, circle_floats};
 ghost use Rattle.paints.specs.Paints.{circle_rect};
-ghost use Rattle.fill.specs.Rows.{ends_of, Ready, clamped_of, Cuts, past_of, LevelOf};
+ghost use Rattle.fill.specs.Rows.{ends_of, clamped_of, Cuts, past_of, LevelOf};
 
 use color::{Color, Inked, blend_c, over, put};
 use draw::{Area, Span, clipped};
 use geom::{IRect, Rect, float_ok, nat_of};
 use gfx::{Canvas, Counted};
 use paints::{Edge, Paint, along_line, centre, radius, side_cover};
-
-// Columns of a row: where its left rim ends, and where its right rim starts.
-#[derive(Clone, Copy)]
-struct Ends {
-    le: usize,
-    rs: usize,
-}
-
-// A rectangle with round corners, their edge, and the ends of its rows: beside a corner, and elsewhere.
-#[derive(Clone, Copy)]
-struct Round {
-    rect: Rect,
-    edge: Edge,
-    bent: Ends,
-    straight: Ends,
-}
 
 // The pixels around the rectangle; none where it has no width or no height.
 pub fn fill_reach(rect: Rect) -> IRect
@@ -72,97 +56,11 @@ fn column(x: f32) -> usize
     nat_of(mathf::to_i32(x))
 }
 
-// The ends of a row that lies beside a round corner, or of any other.
-fn row_ends(rect: Rect, r: f32, corner: bool) -> Ends
-    ensures { result ≡ ends_of corner rect r }
-{
-    if corner {
-        let le = column(mathf::ceil(rect.x + r));
-        let rs = column(mathf::floor(rect.right() - r));
-        return Ends { le, rs };
-    }
-    let le = column(mathf::ceil(rect.x) + 1.0);
-    let rs = column(mathf::floor(rect.right()) - 1.0);
-    Ends { le, rs }
-}
-
-// The edge and the ends are worked out once, for all rows.
-fn round_of(rect: Rect, r: f32) -> Round
-    ensures { Ready result × (result.rect ≡ rect) × (result.edge.r ≡ r) }
-{
-    let edge = Edge::of(r);
-    let bent = row_ends(rect, r, true);
-    let straight = row_ends(rect, r, false);
-    Round {
-        rect,
-        edge,
-        bent,
-        straight,
-    }
-}
-
-// Ends brought to the columns x0 up to x1.
-fn clamped(e: Ends, x0: usize, x1: usize) -> Ends
-    ensures { result ≡ clamped_of e x0 x1 }
-{
-    let le = e.le.min(x1).max(x0);
-    let rs = e.rs.min(x1).max(le);
-    Ends { le, rs }
-}
-
-// Where a row is cut: an edge row has no middle.
-fn cut_row(s: Round, row: Span) -> Ends
-    requires { (row.x0 ≤ row.x1) × (row.y ≤ 2048) × Ready s }
-    ensures { Cuts s.rect s.edge.r row.y row.x0 row.x1 result }
-{
-    let rect = s.rect;
-    let yc = centre(row.y as u16);
-    if edge_row(rect, yc) {
-        return Ends {
-            le: row.x1,
-            rs: row.x1,
-        };
-    }
-    if corner_row(rect, s.edge.r, yc) {
-        return clamped(s.bent, row.x0, row.x1);
-    }
-    clamped(s.straight, row.x0, row.x1)
-}
-
 // How far p is past the straight part of a side, from c to a corner of radius r and then h.
 fn past(p: f32, c: f32, h: f32, r: f32) -> f32
     ensures { result ≡ past_of p c h r }
 {
     mathf::fabs(p - c) - (h - r)
-}
-
-// What the columns of a row share: how far it is past the sides, and its coverage beside the corners.
-#[derive(Clone, Copy)]
-struct Level {
-    qy: f32,
-    level: u32,
-}
-
-fn level_of(s: Round, y: usize) -> Level
-    requires { y ≤ 2048 }
-    ensures { LevelOf s.rect s.edge.r (centre_of y) result }
-{
-    let rect = s.rect;
-    let r = s.edge.r;
-    let qy = past(centre(y as u16), rect.cy(), rect.h * 0.5, r);
-    Level {
-        qy,
-        level: side_cover(qy - r),
-    }
-}
-
-// The coverage of a point of such a row.
-fn level_cover(s: Round, l: Level, xc: f32) -> u32
-    ensures { (yc : Float) → Ready s → LevelOf s.rect s.edge.r yc l → result ≡ cover_of s.rect s.edge.r xc yc }
-{
-    let rect = s.rect;
-    let qx = past(xc, rect.cx(), rect.w * 0.5, s.edge.r);
-    s.edge.beside(qx, l.qy, l.level)
 }
 
 // The colour of a paint at a point; a plain colour costs no call.
@@ -175,25 +73,135 @@ fn colour_at(paint: Paint, xc: f32, yc: f32) -> Color
     }
 }
 
-// A pixel around xc and yc by coverage, from its value p: a root is taken only near the edge.
-fn rim_pixel(s: Round, l: Level, paint: Paint, xc: f32, yc: f32, p: u32) -> Inked
-    requires { Ready s × LevelOf s.rect s.edge.r yc l }
-    ensures { result ≡ inked_of p (over_c p (paint_at paint xc yc) (cover_of s.rect s.edge.r xc yc)) }
-{
-    let cv = level_cover(s, l, xc);
-    if cv == 0 {
-        return put(p, p);
+// Columns of a row: where its left rim ends, and where its right rim starts.
+#[derive(Clone, Copy)]
+struct Ends {
+    le: usize,
+    rs: usize,
+}
+
+impl Ends {
+    // The ends of a row that lies beside a round corner, or of any other.
+    fn of(rect: Rect, r: f32, corner: bool) -> Ends
+        ensures { result ≡ ends_of corner rect r }
+    {
+        if corner {
+            let le = column(mathf::ceil(rect.x + r));
+            let rs = column(mathf::floor(rect.right() - r));
+            return Ends { le, rs };
+        }
+        let le = column(mathf::ceil(rect.x) + 1.0);
+        let rs = column(mathf::floor(rect.right()) - 1.0);
+        Ends { le, rs }
     }
-    blend_c(p, colour_at(paint, xc, yc), cv)
+
+    // The ends brought to the columns x0 up to x1.
+    fn clamped(self, x0: usize, x1: usize) -> Ends
+        ensures { result ≡ clamped_of self x0 x1 }
+    {
+        let le = self.le.min(x1).max(x0);
+        let rs = self.rs.min(x1).max(le);
+        Ends { le, rs }
+    }
+}
+
+// What the columns of a row share: how far it is past the sides, and its coverage beside the corners.
+#[derive(Clone, Copy)]
+struct Level {
+    qy: f32,
+    level: u32,
+}
+
+// A rectangle with round corners, their edge, and the ends of its rows: beside a corner, and elsewhere.
+#[derive(Clone, Copy)]
+struct Round {
+    rect: Rect,
+    edge: Edge,
+    bent: Ends,
+    straight: Ends,
+    ghost own: { edge ≡ edge_of edge.r },
+    ghost own_bent: { bent ≡ ends_of true rect edge.r },
+    ghost own_straight: { straight ≡ ends_of false rect edge.r },
+}
+
+impl Round {
+    // The edge and the ends are worked out once, for all rows.
+    fn of(rect: Rect, r: f32) -> Round
+        ensures { (result.rect ≡ rect) × (result.edge.r ≡ r) }
+    {
+        let edge = Edge::of(r);
+        let bent = Ends::of(rect, r, true);
+        let straight = Ends::of(rect, r, false);
+        Round {
+            rect,
+            edge,
+            bent,
+            straight,
+        }
+    }
+
+    // Where a row is cut: an edge row has no middle.
+    fn cut(self, row: Span) -> Ends
+        requires { (row.x0 ≤ row.x1) × (row.y ≤ 2048) }
+        ensures { Cuts self.rect self.edge.r row.y row.x0 row.x1 result }
+    {
+        let rect = self.rect;
+        let yc = centre(row.y as u16);
+        if edge_row(rect, yc) {
+            return Ends {
+                le: row.x1,
+                rs: row.x1,
+            };
+        }
+        if corner_row(rect, self.edge.r, yc) {
+            return self.bent.clamped(row.x0, row.x1);
+        }
+        self.straight.clamped(row.x0, row.x1)
+    }
+
+    // What the columns of row y share.
+    fn level(self, y: usize) -> Level
+        requires { y ≤ 2048 }
+        ensures { LevelOf self.rect self.edge.r (centre_of y) result }
+    {
+        let rect = self.rect;
+        let r = self.edge.r;
+        let qy = past(centre(y as u16), rect.cy(), rect.h * 0.5, r);
+        Level {
+            qy,
+            level: side_cover(qy - r),
+        }
+    }
+
+    // The coverage of a point of a row of level l.
+    fn cover(self, l: Level, xc: f32) -> u32
+        ensures { (yc : Float) → LevelOf self.rect self.edge.r yc l → result ≡ cover_of self.rect self.edge.r xc yc }
+    {
+        let rect = self.rect;
+        let qx = past(xc, rect.cx(), rect.w * 0.5, self.edge.r);
+        self.edge.beside(qx, l.qy, l.level)
+    }
+
+    // A pixel around xc and yc by coverage, from its value p: a root is taken only near the edge.
+    fn rim_pixel(self, l: Level, paint: Paint, xc: f32, yc: f32, p: u32) -> Inked
+        requires { LevelOf self.rect self.edge.r yc l }
+        ensures { result ≡ inked_of p (over_c p (paint_at paint xc yc) (cover_of self.rect self.edge.r xc yc)) }
+    {
+        let cv = self.cover(l, xc);
+        if cv == 0 {
+            return put(p, p);
+        }
+        blend_c(p, colour_at(paint, xc, yc), cv)
+    }
 }
 
 // Columns of a row by coverage.
 fn rim(px: &mut [u32], row: Span, s: Round, l: Level, paint: Paint) -> u32
-    requires { SpanFits row (length px.old) × Ready s × LevelOf s.rect s.edge.r (centre_of row.y) l }
+    requires { SpanFits row (length px.old) × LevelOf s.rect s.edge.r (centre_of row.y) l }
     ensures { DrewSpan row (rim_ink s.rect s.edge.r paint) px.old result px.new }
 {
     let yc = centre(row.y as u16);
-    row.draw(px, |x, p| rim_pixel(s, l, paint, centre(x as u16), yc, p))
+    row.draw(px, |x, p| s.rim_pixel(l, paint, centre(x as u16), yc, p))
 }
 
 // Columns of a row set to one value.
@@ -239,12 +247,12 @@ fn middle_span(px: &mut [u32], row: Span, paint: Paint) -> u32
 
 // A row by the paint as the row has it: rim, middle, rim.
 fn fill_row(px: &mut [u32], row: Span, s: Round, paint: Paint) -> u32
-    requires { SpanFits row (length px.old) × Ready s }
+    requires { SpanFits row (length px.old) }
     ensures { DrewSpan row (round_ink s.rect s.edge.r paint) px.old result px.new }
 {
     let here = paint.in_row(centre(row.y as u16));
-    let Ends { le, rs } = cut_row(s, row);
-    let l = level_of(s, row.y);
+    let Ends { le, rs } = s.cut(row);
+    let l = s.level(row.y);
     let left = rim(px, Span { x1: le, ..row }, s, l, here);
     let middle = middle_span(
         px,
@@ -268,7 +276,7 @@ fn fill_area(px: &mut [u32], pitch: usize, bb: Area, rect: Rect, r: f32, paint: 
         return 0;
     }
     let short = radius(rect, r);
-    let s = round_of(rect, short);
+    let s = Round::of(rect, short);
     bb.draw(px, pitch, |px, row| fill_row(px, row, s, paint))
 }
 

@@ -13,11 +13,11 @@ returns-then-bb c =
 
 pub draw-requires-clause-draws : goal.draw-requires-clause-draws
 draw-requires-clause-draws c =
-    let s = c.round_of-s.result in
+    let s = c.of-s.result in
     (round_ink s.rect s.edge.r c.args.paint, λ px y n px' _ _ fits e. search rules)
 
 pub returns : goal.returns
 returns c =
-    let s = c.round_of-s.result in
-    rw (c.round_of-s.ensures.1, c.round_of-s.ensures.2 ∙ c.radius-short.ensures)
+    let s = c.of-s.result in
+    rw (c.of-s.ensures.0, c.of-s.ensures.1 ∙ c.radius-short.ensures)
     at (c.draw.ensures (round_ink s.rect s.edge.r c.args.paint) (λ px y n px' _ _ fits e. search rules))

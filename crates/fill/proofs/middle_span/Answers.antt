@@ -4,10 +4,6 @@ use Rattle.paints.specs.Paints.{paint_at}
 use Rattle.fill.specs.Fill.{middle_ink}
 use Rattle.fill.proofs.middle_span.Goals as goal
 
-pub returns-in-Solid : goal.returns-in-Solid
-returns-in-Solid c =
-    rw c.in-Solid.is c.solid_span.ensures
-
 pub returns-in-Linear : goal.returns-in-Linear
 unfolding middle_ink paint_at
 returns-in-Linear c = c.draw.ensures (middle_ink c.args.paint) (λ x p q _ _ _ e. rw (c.in-Linear.is, ← c.centre-yc.ensures) (search rules))

@@ -16,9 +16,6 @@ returns-then-bb c =
     (none_down a.pitch (line_ink a.a a.b a.width a.color) _ (clip_to (line_reach a.a a.b a.width) a.clip) low
     ∙ sym (drawn_clip a.pitch a.clip (line_reach a.a a.b a.width) (line_ink a.a a.b a.width a.color) _))
 
-pub draw-requires-clause-area_fits : goal.draw-requires-clause-area_fits
-draw-requires-clause-area_fits c = rw (c.clipped-bb.ensures, c.line_reach.ensures) c.requires
-
 pub draw-requires-clause-draws : goal.draw-requires-clause-draws
 draw-requires-clause-draws c = (segment_ink c.of-s.result.segment c.args.color, λ px y n px' _ _ fits e. search rules)
 

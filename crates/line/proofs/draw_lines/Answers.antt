@@ -5,10 +5,6 @@ use Rattle.line.proofs.draw_lines.Goals as goal
 pub loop-i-init : goal.loop-i-init
 loop-i-init c = lines_begin _ _ _ _ _ _
 
-pub draw_line-n-requires : goal.draw_line-n-requires
-draw_line-n-requires c =
-    rw c.loop-i.invariant.long (c.requires.area_fits _)
-
 pub loop-i-preserved : goal.loop-i-preserved
 loop-i-preserved c =
     lines_next _ _ _ _ _ _ c.loop-i.invariant c.loop-i-test.true (rw (c.point.ensures, c.point-in-loop-i.ensures) at c.draw_line-n.ensures)

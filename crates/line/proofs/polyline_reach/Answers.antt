@@ -18,11 +18,3 @@ pub loop-i-preserved : goal.loop-i-preserved
 loop-i-preserved c = λ col.
     c.join-area.ensures
     ∙ rw (c.line_reach.ensures, c.point.ensures, c.point-in-loop-i.ensures, c.loop-i.invariant col) (reach_turn _ _ col _ _ c.loop-i-test.true (omega arith))
-
-pub returns : goal.returns
-returns c = λ col.
-    let l = c.loop-i in
-    let n = length c.args.pts.now / 2 in
-    let e : n - max 1 l.i ≡ n - 1 = omega arith in
-    let z : l.i - 1 ≡ 0 = omega arith in
-    rw (e, z) at (l.invariant col)

@@ -1,6 +1,6 @@
--- `fill::row_ends` meets its contract. Assumes nothing.
+-- `fill::Ends::of` meets its contract. Assumes nothing.
 use Rattle.fill.specs.Rows.{ends_of}
-use Rattle.fill.proofs.row_ends.Goals as goal
+use Rattle.fill.proofs.Ends.of.Goals as goal
 
 pub returns-then-corner : goal.returns-then-corner
 unfolding ends_of
