@@ -30,7 +30,7 @@ pub fn fill_reach(rect: Rect) -> IRect
     ensures { result ≡ fill_reach rect }
 {
     if rect.is_empty() {
-        return IRect::new(0, 0, 0, 0);
+        return IRect::ZERO;
     }
     IRect::from_rect_outer(rect)
 }
@@ -217,13 +217,11 @@ fn solid_span(px: &mut [u32], row: Span, c: Color) -> u32
     requires { SpanFits row (length px.old) }
     ensures { DrewSpan row (middle_ink (Solid c)) px.old result px.new }
 {
-    if c.a == 255 {
-        return store_span(px, row, c.pix());
+    match c.a {
+        255 => store_span(px, row, c.pix()),
+        0 => 0,
+        a => row.draw(px, |_, p| over(p, c, a as u32)),
     }
-    if c.a > 0 {
-        return row.draw(px, |_, p| over(p, c, c.a as u32));
-    }
-    0
 }
 
 // The middle of a row, by the kind of its paint.
