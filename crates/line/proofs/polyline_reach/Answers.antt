@@ -17,4 +17,4 @@ loop-i-init c =
 pub loop-i-preserved : goal.loop-i-preserved
 loop-i-preserved c = λ col.
     c.join-area.ensures
-    ∙ rw (c.line_reach.ensures, c.point.ensures, c.point-in-loop-i.ensures, c.loop-i.invariant col) (reach_turn _ _ col _ _ c.loop-i-test.true (omega arith))
+    ∙ rw (c.line_reach.ensures, c.point.ensures, c.point-in-loop-i.ensures, c.loop-i.invariant col) (reach_turn _ _ col _ _ (omega arith) (omega arith))
