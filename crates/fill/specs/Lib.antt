@@ -1,4 +1,4 @@
--- Fill is what the contracts of the calls cite, Rows what a row's loops do.
+-- Fill is what the contracts of the calls cite, Rows what the functions that draw a row do.
 pub mod Fill
 pub mod Rows
 pub mod Examples

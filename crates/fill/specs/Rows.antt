@@ -1,6 +1,6 @@
 -- How the rows of a filled rectangle are cut into rim, middle and rim, and what their columns share. No call of the library cites
--- this file: the loops of a row do.
-use Rattle.std.specs.Prelude.{Bool, true, false, ◌≡◌, ℕ, ◌≤◌, ◌<◌, min, max, Float}
+-- this file: the functions that draw a row do.
+use Rattle.std.specs.Prelude.{Bool, ◌≡◌, ℕ, ◌≤◌, ◌<◌, min, max, Float}
 use Rattle.mathf.specs.F32.{◌-ᶠ◌, ◌*ᶠ◌, f½}
 use Rattle.mathf.specs.Order.{fabs_of}
 use Rattle.mathf.specs.Convert.{to_i32}
@@ -9,21 +9,13 @@ use Rattle.geom.specs.Int.{up}
 use Rattle.geom.specs.Plane.{cy_of}
 use Rattle.draw.specs.Areas.{within}
 use Rattle.paints.specs.Paints.{cov8_of}
-use Rattle.paints.specs.Edges.{edge_of}
 use Rattle.fill.specs.declared.Ends.{Ends}
-use Rattle.fill.specs.declared.Round.{Round}
 use Rattle.fill.specs.declared.Level.{Level}
 use Rattle.fill.specs.Fill.{le_of, rs_of, middle}
 
 -- where the rims end, as columns: of a corner row, and of any other
 unfoldable pub ends_of : Bool → Rect → Float → Ends
 ends_of corner rect r = record { le = up (to_i32 (le_of corner rect r)); rs = up (to_i32 (rs_of corner rect r)) }
-
--- a rectangle's edge is that of its radius, and its ends are those of its rows
-pub record Ready (s : Round) : Type 0 where
-  pub own : s.edge ≡ edge_of s.edge.r
-  pub bent : s.bent ≡ ends_of true s.rect s.edge.r
-  pub straight : s.straight ≡ ends_of false s.rect s.edge.r
 
 -- how far p is past the straight part of a side, from c to a corner of radius r and then h
 abbrev pub past_of : Float → Float → Float → Float → Float

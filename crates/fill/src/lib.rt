@@ -2,50 +2,35 @@
 // many pixels' values it altered.
 #![tactic(auto)]
 
-ghost use Rattle.std.specs.Prelude.{◌≡◌, Bool, ◌+◌, ◌≤◌, min, max, Float, length};
+ghost use Rattle.std.specs.Prelude.{true, false, ◌≡◌, ◌≤◌, Float, length};
 ghost use Rattle.mathf.specs.F32.{f0};
 ghost use Rattle.mathf.specs.Convert.{to_i32};
 ghost use Rattle.geom.specs.Int.{up};
 ghost use Rattle.color.specs.Colours.{pix_of};
+ghost use Rattle.color.specs.Inks.{inked_of, over_c};
 ghost use Rattle.draw.specs.Draw.{drawn};
-ghost use Rattle.draw.specs.Areas.{RowFits, AreaFits, DrewRow, DrewIn};
+ghost use Rattle.draw.specs.Areas.{SpanFits, AreaFits, DrewSpan, DrewIn};
 ghost use Rattle.gfx.specs.Calls.{ShapeCalled, px_number};
-ghost use Rattle.paints.specs.declared.Paint.TheVariants.{Solid, Linear};
+ghost use Rattle.paints.specs.declared.Paint.TheVariants.{Solid};
 ghost use Rattle.paints.specs.Paints.{paint_at, centre_of};
 ghost use Rattle.paints.specs.Edges.{edge_of};
 ghost use Rattle.fill.specs.Fill.{fill_reach, edge_row, corner_row, cover_of, rim_ink, middle_ink, round_ink, fill_ink};
 ghost use Rattle.fill.specs.Fill.{Filled, rrect_floats, rect_floats, circle_floats};
 ghost use Rattle.paints.specs.Paints.{circle_rect};
-ghost use Rattle.fill.specs.Rows.{ends_of, Ready, clamped_of, Cuts, past_of, LevelOf};
+ghost use Rattle.fill.specs.Rows.{ends_of, clamped_of, Cuts, past_of, LevelOf};
 
-use color::{Color, blend_c, over, put};
-use draw::{Area, clipped};
-use geom::{IRect, Pt, Rect, float_ok, nat_of};
+use color::{Color, Inked, blend_c, over, put};
+use draw::{Area, Span, clipped};
+use geom::{IRect, Rect, float_ok, nat_of};
 use gfx::{Canvas, Counted};
 use paints::{Edge, Paint, along_line, centre, radius, side_cover};
-
-// Columns of a row: where its left rim ends, and where its right rim starts.
-#[derive(Clone, Copy)]
-struct Ends {
-    le: usize,
-    rs: usize,
-}
-
-// A rectangle with round corners, their edge, and the ends of its rows: beside a corner, and elsewhere.
-#[derive(Clone, Copy)]
-struct Round {
-    rect: Rect,
-    edge: Edge,
-    bent: Ends,
-    straight: Ends,
-}
 
 // The pixels around the rectangle; none where it has no width or no height.
 pub fn fill_reach(rect: Rect) -> IRect
     ensures { result ≡ fill_reach rect }
 {
     if rect.is_empty() {
-        return IRect::new(0, 0, 0, 0);
+        return IRect::ZERO;
     }
     IRect::from_rect_outer(rect)
 }
@@ -71,106 +56,11 @@ fn column(x: f32) -> usize
     nat_of(mathf::to_i32(x))
 }
 
-// The ends of a row that lies beside a round corner, or of any other.
-fn row_ends(rect: Rect, r: f32, corner: bool) -> Ends
-    ensures { result ≡ ends_of corner rect r }
-{
-    if corner {
-        let le = column(mathf::ceil(rect.x + r));
-        let rs = column(mathf::floor(rect.right() - r));
-        return Ends { le, rs };
-    }
-    let le = column(mathf::ceil(rect.x) + 1.0);
-    let rs = column(mathf::floor(rect.right()) - 1.0);
-    Ends { le, rs }
-}
-
-// The edge and the ends are worked out once, for all rows.
-fn round_of(rect: Rect, r: f32) -> Round
-    ensures { Ready result × (result.rect ≡ rect) × (result.edge.r ≡ r) }
-{
-    let edge = Edge::of(r);
-    let bent = row_ends(rect, r, true);
-    let straight = row_ends(rect, r, false);
-    Round {
-        rect,
-        edge,
-        bent,
-        straight,
-    }
-}
-
-// v brought to lo up to hi.
-fn between(v: usize, lo: usize, hi: usize) -> usize
-    requires { lo ≤ hi }
-    ensures { result ≡ max lo (min v hi) }
-{
-    if v < lo {
-        lo
-    } else if v < hi {
-        v
-    } else {
-        hi
-    }
-}
-
-// Ends brought to the columns x0 up to x1.
-fn clamped(e: Ends, x0: usize, x1: usize) -> Ends
-    requires { x0 ≤ x1 }
-    ensures { result ≡ clamped_of e x0 x1 }
-{
-    let le = between(e.le, x0, x1);
-    let rs = between(e.rs, le, x1);
-    Ends { le, rs }
-}
-
-// Where row y is cut, between the columns x0 and x1: an edge row has no middle.
-fn cut_row(s: Round, y: usize, x0: usize, x1: usize) -> Ends
-    requires { (x0 ≤ x1) × (y ≤ 2048) × Ready s }
-    ensures { Cuts s.rect s.edge.r y x0 x1 result }
-{
-    let rect = s.rect;
-    let yc = centre(y as u16);
-    if edge_row(rect, yc) {
-        return Ends { le: x1, rs: x1 };
-    }
-    if corner_row(rect, s.edge.r, yc) {
-        return clamped(s.bent, x0, x1);
-    }
-    clamped(s.straight, x0, x1)
-}
-
 // How far p is past the straight part of a side, from c to a corner of radius r and then h.
 fn past(p: f32, c: f32, h: f32, r: f32) -> f32
     ensures { result ≡ past_of p c h r }
 {
     mathf::fabs(p - c) - (h - r)
-}
-
-// What the columns of a row share: how far it is past the sides, and its coverage beside the corners.
-#[derive(Clone, Copy)]
-struct Level {
-    qy: f32,
-    level: u32,
-}
-
-fn level_of(rect: Rect, r: f32, y: usize) -> Level
-    requires { y ≤ 2048 }
-    ensures { LevelOf rect r (centre_of y) result }
-{
-    let qy = past(centre(y as u16), rect.cy(), rect.h * 0.5, r);
-    Level {
-        qy,
-        level: side_cover(qy - r),
-    }
-}
-
-// The coverage of a point of such a row, whose corners have the edge e.
-fn level_cover(rect: Rect, e: Edge, l: Level, xc: f32) -> u32
-    ensures { (yc : Float) → e ≡ edge_of e.r → LevelOf rect e.r yc l → result ≡ cover_of rect e.r xc yc }
-{
-    let qx = past(xc, rect.cx(), rect.w * 0.5, e.r);
-    e.beside(qx, l.qy, l.level)
 }
 
 // The colour of a paint at a point; a plain colour costs no call.
@@ -183,219 +73,209 @@ fn colour_at(paint: Paint, xc: f32, yc: f32) -> Color
     }
 }
 
-// Columns of row y by coverage: a root is taken only near the edge.
-fn rim(
-    px: &mut [u32],
-    pitch: usize,
-    y: usize,
-    x0: usize,
-    x1: usize,
-    rect: Rect,
-    e: Edge,
-    l: Level,
-    paint: Paint,
-) -> u32
-    requires { RowFits pitch y x0 x1 (length px.old) × (e ≡ edge_of e.r) × LevelOf rect e.r (centre_of y) l }
-    ensures { DrewRow pitch y x0 x1 (rim_ink rect e.r paint) px.old result px.new }
-{
-    let row = y * pitch;
-    let yc = centre(y as u16);
-    let mut n = 0;
-    for x in x0..x1 {
-        let xc = centre(x as u16);
-        let cv = level_cover(rect, e, l, xc);
-        if cv == 0 {
-            continue;
+// Columns of a row: where its left rim ends, and where its right rim starts.
+#[derive(Clone, Copy)]
+struct Ends {
+    le: usize,
+    rs: usize,
+}
+
+impl Ends {
+    // The ends of a row that lies beside a round corner, or of any other.
+    fn of(rect: Rect, r: f32, corner: bool) -> Ends
+        ensures { result ≡ ends_of corner rect r }
+    {
+        if corner {
+            let le = column(mathf::ceil(rect.x + r));
+            let rs = column(mathf::floor(rect.right() - r));
+            return Ends { le, rs };
         }
-        let c = colour_at(paint, xc, yc);
-        let i = row + x;
-        let q = blend_c(px[i], c, cv);
-        px[i] = q.value;
-        n += q.altered as u32;
+        let le = column(mathf::ceil(rect.x) + 1.0);
+        let rs = column(mathf::floor(rect.right()) - 1.0);
+        Ends { le, rs }
     }
-    n
+
+    // The ends brought to the columns x0 up to x1.
+    fn clamped(self, x0: usize, x1: usize) -> Ends
+        ensures { result ≡ clamped_of self x0 x1 }
+    {
+        let le = self.le.min(x1).max(x0);
+        let rs = self.rs.min(x1).max(le);
+        Ends { le, rs }
+    }
 }
 
-// Columns of row y set to one value.
-fn store_span(px: &mut [u32], pitch: usize, y: usize, x0: usize, x1: usize, v: u32) -> u32
-    requires { RowFits pitch y x0 x1 (length px.old) }
-    ensures { DrewRow pitch y x0 x1 (λ _ _ _. v) px.old result px.new }
-{
-    let row = y * pitch;
-    let mut n = 0;
-    for x in x0..x1 {
-        let i = row + x;
-        let q = put(px[i], v);
-        px[i] = q.value;
-        n += q.altered as u32;
-    }
-    n
+// What the columns of a row share: how far it is past the sides, and its coverage beside the corners.
+#[derive(Clone, Copy)]
+struct Level {
+    qy: f32,
+    level: u32,
 }
 
-// Columns of row y under a colour.
-fn over_span(px: &mut [u32], pitch: usize, y: usize, x0: usize, x1: usize, c: Color) -> u32
-    requires { RowFits pitch y x0 x1 (length px.old) }
-    ensures { DrewRow pitch y x0 x1 (middle_ink (Solid c)) px.old result px.new }
-{
-    let row = y * pitch;
-    let a = c.a as u32;
-    let mut n = 0;
-    for x in x0..x1 {
-        let i = row + x;
-        let q = over(px[i], c, a);
-        px[i] = q.value;
-        n += q.altered as u32;
-    }
-    n
+// A rectangle with round corners, their edge, and the ends of its rows: beside a corner, and elsewhere.
+#[derive(Clone, Copy)]
+struct Round {
+    rect: Rect,
+    edge: Edge,
+    bent: Ends,
+    straight: Ends,
+    ghost own: { edge ≡ edge_of edge.r },
+    ghost own_bent: { bent ≡ ends_of true rect edge.r },
+    ghost own_straight: { straight ≡ ends_of false rect edge.r },
 }
 
-// Columns of row y under a linear gradient.
-fn line_span(
-    px: &mut [u32],
-    pitch: usize,
-    y: usize,
-    x0: usize,
-    x1: usize,
-    p0: Pt,
-    p1: Pt,
-    c0: Color,
-    c1: Color,
-) -> u32
-    requires { RowFits pitch y x0 x1 (length px.old) }
-    ensures { DrewRow pitch y x0 x1 (middle_ink (Linear p0 p1 c0 c1)) px.old result px.new }
-{
-    let row = y * pitch;
-    let yc = centre(y as u16);
-    let mut n = 0;
-    for x in x0..x1 {
-        let c = c0.mix(c1, along_line(p0, p1, centre(x as u16), yc));
-        let i = row + x;
-        let q = over(px[i], c, c.a as u32);
-        px[i] = q.value;
-        n += q.altered as u32;
+impl Round {
+    // The edge and the ends are worked out once, for all rows.
+    fn of(rect: Rect, r: f32) -> Round
+        ensures { (result.rect ≡ rect) × (result.edge.r ≡ r) }
+    {
+        let edge = Edge::of(r);
+        let bent = Ends::of(rect, r, true);
+        let straight = Ends::of(rect, r, false);
+        Round {
+            rect,
+            edge,
+            bent,
+            straight,
+        }
     }
-    n
+
+    // Where a row is cut: an edge row has no middle.
+    fn cut(self, row: Span) -> Ends
+        requires { (row.x0 ≤ row.x1) × (row.y ≤ 2048) }
+        ensures { Cuts self.rect self.edge.r row.y row.x0 row.x1 result }
+    {
+        let rect = self.rect;
+        let yc = centre(row.y as u16);
+        if edge_row(rect, yc) {
+            return Ends {
+                le: row.x1,
+                rs: row.x1,
+            };
+        }
+        if corner_row(rect, self.edge.r, yc) {
+            return self.bent.clamped(row.x0, row.x1);
+        }
+        self.straight.clamped(row.x0, row.x1)
+    }
+
+    // What the columns of row y share.
+    fn level(self, y: usize) -> Level
+        requires { y ≤ 2048 }
+        ensures { LevelOf self.rect self.edge.r (centre_of y) result }
+    {
+        let rect = self.rect;
+        let r = self.edge.r;
+        let qy = past(centre(y as u16), rect.cy(), rect.h * 0.5, r);
+        Level {
+            qy,
+            level: side_cover(qy - r),
+        }
+    }
+
+    // The coverage of a point of a row of level l.
+    fn cover(self, l: Level, xc: f32) -> u32
+        ensures { (yc : Float) → LevelOf self.rect self.edge.r yc l → result ≡ cover_of self.rect self.edge.r xc yc }
+    {
+        let rect = self.rect;
+        let qx = past(xc, rect.cx(), rect.w * 0.5, self.edge.r);
+        self.edge.beside(qx, l.qy, l.level)
+    }
+
+    // A pixel around xc and yc by coverage, from its value p: a root is taken only near the edge.
+    fn rim_pixel(self, l: Level, paint: Paint, xc: f32, yc: f32, p: u32) -> Inked
+        requires { LevelOf self.rect self.edge.r yc l }
+        ensures { result ≡ inked_of p (over_c p (paint_at paint xc yc) (cover_of self.rect self.edge.r xc yc)) }
+    {
+        let cv = self.cover(l, xc);
+        if cv == 0 {
+            return put(p, p);
+        }
+        blend_c(p, colour_at(paint, xc, yc), cv)
+    }
 }
 
-// Columns of row y under a paint, which is asked at each pixel.
-fn paint_span(px: &mut [u32], pitch: usize, y: usize, x0: usize, x1: usize, paint: Paint) -> u32
-    requires { RowFits pitch y x0 x1 (length px.old) }
-    ensures { DrewRow pitch y x0 x1 (middle_ink paint) px.old result px.new }
+// Columns of a row by coverage.
+fn rim(px: &mut [u32], row: Span, s: Round, l: Level, paint: Paint) -> u32
+    requires { SpanFits row (length px.old) × LevelOf s.rect s.edge.r (centre_of row.y) l }
+    ensures { DrewSpan row (rim_ink s.rect s.edge.r paint) px.old result px.new }
 {
-    let row = y * pitch;
-    let yc = centre(y as u16);
-    let mut n = 0;
-    for x in x0..x1 {
-        let c = paint.at(centre(x as u16), yc);
-        let i = row + x;
-        let q = over(px[i], c, c.a as u32);
-        px[i] = q.value;
-        n += q.altered as u32;
-    }
-    n
+    let yc = centre(row.y as u16);
+    row.draw(px, |x, p| s.rim_pixel(l, paint, centre(x as u16), yc, p))
 }
 
-// Columns of row y under a colour: plain stores at full alpha, nothing at alpha 0.
-fn solid_span(px: &mut [u32], pitch: usize, y: usize, x0: usize, x1: usize, c: Color) -> u32
-    requires { RowFits pitch y x0 x1 (length px.old) }
-    ensures { DrewRow pitch y x0 x1 (middle_ink (Solid c)) px.old result px.new }
+// Columns of a row set to one value.
+fn store_span(px: &mut [u32], row: Span, v: u32) -> u32
+    requires { SpanFits row (length px.old) }
+    ensures { DrewSpan row (λ _ _ _. v) px.old result px.new }
 {
-    if c.a == 255 {
-        return store_span(px, pitch, y, x0, x1, c.pix());
-    }
-    if c.a > 0 {
-        return over_span(px, pitch, y, x0, x1, c);
-    }
-    0
+    row.draw(px, |_, p| put(p, v))
 }
 
-// The middle of row y, by the kind of its paint.
-fn middle_span(px: &mut [u32], pitch: usize, y: usize, x0: usize, x1: usize, paint: Paint) -> u32
-    requires { RowFits pitch y x0 x1 (length px.old) }
-    ensures { DrewRow pitch y x0 x1 (middle_ink paint) px.old result px.new }
+// Columns of a row under a colour: plain stores at full alpha, nothing at alpha 0.
+fn solid_span(px: &mut [u32], row: Span, c: Color) -> u32
+    requires { SpanFits row (length px.old) }
+    ensures { DrewSpan row (middle_ink (Solid c)) px.old result px.new }
 {
+    match c.a {
+        255 => store_span(px, row, c.pix()),
+        0 => 0,
+        a => row.draw(px, |_, p| over(p, c, a as u32)),
+    }
+}
+
+// The middle of a row, by the kind of its paint.
+fn middle_span(px: &mut [u32], row: Span, paint: Paint) -> u32
+    requires { SpanFits row (length px.old) }
+    ensures { DrewSpan row (middle_ink paint) px.old result px.new }
+{
+    let yc = centre(row.y as u16);
     match paint {
-        Paint::Solid(c) => solid_span(px, pitch, y, x0, x1, c),
-        Paint::Linear { p0, p1, c0, c1 } => line_span(px, pitch, y, x0, x1, p0, p1, c0, c1),
-        _ => paint_span(px, pitch, y, x0, x1, paint),
+        Paint::Solid(c) => solid_span(px, row, c),
+        Paint::Linear { p0, p1, c0, c1 } => row.draw(px, |x, p| {
+            let c = c0.mix(c1, along_line(p0, p1, centre(x as u16), yc));
+            over(p, c, c.a as u32)
+        }),
+        _ => row.draw(px, |x, p| {
+            let c = paint.at(centre(x as u16), yc);
+            over(p, c, c.a as u32)
+        }),
     }
 }
 
-// Row y between the columns x0 and x1: rim, middle, rim.
-fn row_parts(
-    px: &mut [u32],
-    pitch: usize,
-    y: usize,
-    x0: usize,
-    x1: usize,
-    s: Round,
-    paint: Paint,
-) -> u32
-    requires { RowFits pitch y x0 x1 (length px.old) × Ready s }
-    ensures { DrewRow pitch y x0 x1 (round_ink s.rect s.edge.r paint) px.old result px.new }
+// A row by the paint as the row has it: rim, middle, rim.
+fn fill_row(px: &mut [u32], row: Span, s: Round, paint: Paint) -> u32
+    requires { SpanFits row (length px.old) }
+    ensures { DrewSpan row (round_ink s.rect s.edge.r paint) px.old result px.new }
 {
-    let rect = s.rect;
-    let e = s.edge;
-    let c = cut_row(s, y, x0, x1);
-    let l = level_of(rect, e.r, y);
-    let lend = c.le;
-    let rstart = c.rs;
-    let left = rim(px, pitch, y, x0, lend, rect, e, l, paint);
-    let middle = middle_span(px, pitch, y, lend, rstart, paint);
-    let right = rim(px, pitch, y, rstart, x1, rect, e, l, paint);
+    let here = paint.in_row(centre(row.y as u16));
+    let Ends { le, rs } = s.cut(row);
+    let l = s.level(row.y);
+    let left = rim(px, Span { x1: le, ..row }, s, l, here);
+    let middle = middle_span(
+        px,
+        Span {
+            x0: le,
+            x1: rs,
+            ..row
+        },
+        here,
+    );
+    let right = rim(px, Span { x0: rs, ..row }, s, l, here);
     left + middle + right
 }
 
-// The same by the paint as the row has it.
-fn fill_row(
-    px: &mut [u32],
-    pitch: usize,
-    y: usize,
-    x0: usize,
-    x1: usize,
-    s: Round,
-    paint: Paint,
-) -> u32
-    requires { RowFits pitch y x0 x1 (length px.old) × Ready s }
-    ensures { DrewRow pitch y x0 x1 (round_ink s.rect s.edge.r paint) px.old result px.new }
-{
-    let here = paint.in_row(centre(y as u16));
-    row_parts(px, pitch, y, x0, x1, s, here)
-}
-
-// The rows of an area.
-fn fill_box(px: &mut [u32], pitch: usize, bb: Area, s: Round, paint: Paint) -> u32
-    requires { AreaFits pitch bb (length px.old) × Ready s }
-    ensures { DrewIn pitch bb (round_ink s.rect s.edge.r paint) px.old result px.new }
-{
-    let x0 = bb.x0;
-    let x1 = bb.x1;
-    let mut n = 0;
-    for y in bb.y0..bb.y1 {
-        n += fill_row(px, pitch, y, x0, x1, s, paint);
-    }
-    n
-}
-
-// An area of a rounded rectangle: what its rows share is worked out first.
-fn fill_all(px: &mut [u32], pitch: usize, bb: Area, rect: Rect, r: f32, paint: Paint) -> u32
-    requires { AreaFits pitch bb (length px.old) }
-    ensures { DrewIn pitch bb (fill_ink rect r paint) px.old result px.new }
-{
-    let short = radius(rect, r);
-    let s = round_of(rect, short);
-    fill_box(px, pitch, bb, s, paint)
-}
-
-// The same, where the area has rows.
+// An area of a rounded rectangle: what its rows share is worked out first, where it has rows.
 fn fill_area(px: &mut [u32], pitch: usize, bb: Area, rect: Rect, r: f32, paint: Paint) -> u32
     requires { AreaFits pitch bb (length px.old) }
     ensures { DrewIn pitch bb (fill_ink rect r paint) px.old result px.new }
 {
-    if bb.y0 < bb.y1 {
-        return fill_all(px, pitch, bb, rect, r, paint);
+    if bb.y0 >= bb.y1 {
+        return 0;
     }
-    0
+    let short = radius(rect, r);
+    let s = Round::of(rect, short);
+    bb.draw(px, pitch, |px, row| fill_row(px, row, s, paint))
 }
 
 // A rounded rectangle under the clip, unless the call is refused.
@@ -458,13 +338,7 @@ fn store_box(px: &mut [u32], pitch: usize, bb: Area, v: u32) -> u32
     requires { AreaFits pitch bb (length px.old) }
     ensures { DrewIn pitch bb (λ _ _ _. v) px.old result px.new }
 {
-    let x0 = bb.x0;
-    let x1 = bb.x1;
-    let mut n = 0;
-    for y in bb.y0..bb.y1 {
-        n += store_span(px, pitch, y, x0, x1, v);
-    }
-    n
+    bb.draw(px, pitch, |px, row| store_span(px, row, v))
 }
 
 // The pixels of the clip set to a colour, as a sheet's ground is, whatever its alpha.

@@ -6,20 +6,33 @@ ghost use Rattle.std.specs.Prelude.{◌≡◌, ◌/◌, ◌<◌, ◌≤◌, leng
 ghost use Rattle.geom.specs.declared.IRect.{IRect};
 ghost use Rattle.geom.specs.Plane.{float_ok};
 ghost use Rattle.color.specs.declared.Color.{Color};
+ghost use Rattle.color.specs.Inks.{inked_of, over_c};
 ghost use Rattle.draw.specs.Draw.{drawn};
 ghost use Rattle.draw.specs.Parts.{reach_all};
-ghost use Rattle.draw.specs.Areas.{clip_to, RowFits, AreaFits, Drew, DrewRow, DrewIn};
+ghost use Rattle.draw.specs.Areas.{clip_to, SpanFits, AreaFits, Drew, DrewSpan};
 ghost use Rattle.gfx.specs.Calls.{CalledCounted, ShapeCalled, shape_number};
 ghost use Rattle.gfx.specs.Points.{points_number};
 ghost use Rattle.paints.specs.Edges.{edge_of};
-ghost use Rattle.line.specs.Lines.{abs_of, line_reach, segment_of, cover_of, segment_ink, line_ink, line_ok};
+ghost use Rattle.line.specs.Lines.{line_reach, segment_of, cover_of, segment_ink, line_ink, line_ok};
 ghost use Rattle.line.specs.Polylines.{point_at, polylined, polyline_steps, chain_of, DrewLines};
 
-use color::{Color, blend_c};
-use draw::{Area, clipped};
+use color::{Color, Inked, blend_c, put};
+use draw::{Span, clipped};
 use geom::{IRect, Pt, Rect, float_ok, join};
 use gfx::{Canvas, Counted, points_number};
 use paints::{Edge, centre};
+
+// The pixels around the segment, half the width and one more on each side.
+pub fn line_reach(a: Pt, b: Pt, width: f32) -> IRect
+    ensures { result ≡ line_reach a b width }
+{
+    let pad = width * 0.5 + 1.0;
+    let x = mathf::min(a.x, b.x) - pad;
+    let y = mathf::min(a.y, b.y) - pad;
+    let w = (a.x - b.x).abs() + 2.0 * pad;
+    let h = (a.y - b.y).abs() + 2.0 * pad;
+    IRect::from_rect_outer(Rect { x, y, w, h })
+}
 
 // What the pixels of a line share: its start, its direction, the square of its length and half its width.
 #[derive(Clone, Copy)]
@@ -31,117 +44,76 @@ struct Segment {
     hw: f32,
 }
 
-// The number without its sign: +0 for -0.
-fn abs(x: f32) -> f32
-    ensures { result ≡ abs_of x }
-{
-    if x < 0.0 {
-        -x
-    } else if x == 0.0 {
-        0.0
-    } else {
-        x
-    }
-}
-
-// The pixels around the segment, half the width and one more on each side.
-pub fn line_reach(a: Pt, b: Pt, width: f32) -> IRect
-    ensures { result ≡ line_reach a b width }
-{
-    let pad = width * 0.5 + 1.0;
-    let x = mathf::min(a.x, b.x) - pad;
-    let y = mathf::min(a.y, b.y) - pad;
-    let w = abs(a.x - b.x) + 2.0 * pad;
-    let h = abs(a.y - b.y) + 2.0 * pad;
-    IRect::from_rect_outer(Rect { x, y, w, h })
-}
-
-fn segment_of(a: Pt, b: Pt, width: f32) -> Segment
-    ensures { result ≡ segment_of a b width }
-{
-    let dx = b.x - a.x;
-    let dy = b.y - a.y;
-    let len2 = mathf::max(dx * dx + dy * dy, 0.0001);
-    let hw = width * 0.5;
-    Segment {
-        a,
-        dx,
-        dy,
-        len2,
-        hw,
-    }
-}
-
-// The coverage of a pixel by its centre; e is the edge at half the width.
-fn cover(s: Segment, e: Edge, xc: f32, yc: f32) -> u32
-    requires { e ≡ edge_of s.hw }
-    ensures { result ≡ cover_of s xc yc }
-{
-    let a = s.a;
-    let t = mathf::saturate(((xc - a.x) * s.dx + (yc - a.y) * s.dy) / s.len2);
-    let px = a.x + s.dx * t - xc;
-    let py = a.y + s.dy * t - yc;
-    e.cover(px, py)
-}
-
-// A part of row y.
-fn segment_row(
-    px: &mut [u32],
-    pitch: usize,
-    y: usize,
-    x0: usize,
-    x1: usize,
-    s: Segment,
-    e: Edge,
-    color: Color,
-) -> u32
-    requires row_fits { RowFits pitch y x0 x1 (length px.old) }
-    requires e_value { e ≡ edge_of s.hw }
-    ensures { DrewRow pitch y x0 x1 (segment_ink s color) px.old result px.new }
-{
-    let row = y * pitch;
-    let yc = centre(y as u16);
-    let mut n = 0;
-    for x in x0..x1 {
-        let cv = cover(s, e, centre(x as u16), yc);
-        if cv == 0 {
-            continue;
+impl Segment {
+    fn of(a: Pt, b: Pt, width: f32) -> Segment
+        ensures { result ≡ segment_of a b width }
+    {
+        let dx = b.x - a.x;
+        let dy = b.y - a.y;
+        let len2 = mathf::max(dx * dx + dy * dy, 0.0001);
+        let hw = width * 0.5;
+        Segment {
+            a,
+            dx,
+            dy,
+            len2,
+            hw,
         }
-        let i = row + x;
-        let q = blend_c(px[i], color, cv);
-        px[i] = q.value;
-        n += q.altered as u32;
     }
-    n
 }
 
-// The pixels of an area, row by row.
-fn segment_box(px: &mut [u32], pitch: usize, bb: Area, s: Segment, e: Edge, color: Color) -> u32
-    requires area_fits { AreaFits pitch bb (length px.old) }
-    requires e_value { e ≡ edge_of s.hw }
-    ensures { DrewIn pitch bb (segment_ink s color) px.old result px.new }
-{
-    let x0 = bb.x0;
-    let x1 = bb.x1;
-    let y0 = bb.y0;
-    let y1 = bb.y1;
-    let mut n = 0;
-    for y in y0..y1 {
-        n += segment_row(px, pitch, y, x0, x1, s, e, color);
+// A segment and the edge at half its width.
+#[derive(Clone, Copy)]
+struct Edged {
+    segment: Segment,
+    edge: Edge,
+    ghost own: { edge ≡ edge_of segment.hw },
+}
+
+impl Edged {
+    fn of(segment: Segment) -> Edged
+        ensures { result.segment ≡ segment }
+    {
+        Edged {
+            segment,
+            edge: Edge::of(segment.hw),
+        }
     }
-    n
+
+    // The coverage of a pixel by its centre.
+    fn cover(self, xc: f32, yc: f32) -> u32
+        ensures { result ≡ cover_of self.segment xc yc }
+    {
+        let s = self.segment;
+        let a = s.a;
+        let t = mathf::saturate(((xc - a.x) * s.dx + (yc - a.y) * s.dy) / s.len2);
+        let px = a.x + s.dx * t - xc;
+        let py = a.y + s.dy * t - yc;
+        self.edge.cover(px, py)
+    }
+
+    // A pixel under a colour by its coverage, from its value p.
+    fn pixel(self, color: Color, xc: f32, yc: f32, p: u32) -> Inked
+        ensures { result ≡ inked_of p (over_c p color (cover_of self.segment xc yc)) }
+    {
+        let cv = self.cover(xc, yc);
+        if cv == 0 {
+            return put(p, p);
+        }
+        blend_c(p, color, cv)
+    }
 }
 
-// An area of a line: what its rows share is worked out first.
-fn line_all(px: &mut [u32], pitch: usize, bb: Area, a: Pt, b: Pt, width: f32, color: Color) -> u32
-    requires { AreaFits pitch bb (length px.old) }
-    ensures { DrewIn pitch bb (line_ink a b width color) px.old result px.new }
+// A part of a row.
+fn segment_row(px: &mut [u32], row: Span, s: Edged, color: Color) -> u32
+    requires { SpanFits row (length px.old) }
+    ensures { DrewSpan row (segment_ink s.segment color) px.old result px.new }
 {
-    let s = segment_of(a, b, width);
-    segment_box(px, pitch, bb, s, Edge::of(s.hw), color)
+    let yc = centre(row.y as u16);
+    row.draw(px, |x, p| s.pixel(color, centre(x as u16), yc, p))
 }
 
-// One line under a clip within px.
+// One line under a clip within px: what its rows share is worked out first, where it has rows.
 fn draw_line(
     px: &mut [u32],
     pitch: usize,
@@ -156,10 +128,11 @@ fn draw_line(
         (drawn pitch clip (line_reach a b width) (line_ink a b width color) px.old) result px.new }
 {
     let bb = clipped(line_reach(a, b, width), clip);
-    if bb.y0 < bb.y1 {
-        return line_all(px, pitch, bb, a, b, width, color);
+    if bb.y0 >= bb.y1 {
+        return 0;
     }
-    0
+    let s = Edged::of(Segment::of(a, b, width));
+    bb.draw(px, pitch, |px, row| segment_row(px, row, s, color))
 }
 
 fn line_ok(a: Pt, b: Pt, width: f32) -> bool
@@ -208,14 +181,10 @@ fn point(pts: &[f32], i: usize) -> Pt
 pub fn polyline_reach(pts: &[f32], width: f32) -> IRect
     ensures { (c : Color) → result ≡ reach_all (chain_of pts.now width c) }
 {
+    let n = pts.len() / 2;
     let mut area = IRect::ZERO;
-    let mut i = pts.len() / 2;
-    while 1 < i {
-        area = join(
-            line_reach(point(pts, i - 2), point(pts, i - 1), width),
-            area,
-        );
-        i -= 1;
+    for i in (1..n).rev() {
+        area = join(line_reach(point(pts, i - 1), point(pts, i), width), area);
     }
     area
 }

@@ -5,6 +5,3 @@ use Rattle.fill.proofs.colour_at.Goals as goal
 pub returns-in-Solid : goal.returns-in-Solid
 unfolding paint_at
 returns-in-Solid c = rw c.in-Solid.is
-
-pub returns-in_default : goal.returns-in_default
-returns-in_default c = c.at.ensures

@@ -1,6 +1,5 @@
 -- `fill::fill_ground` meets its contract. Assumes nothing.
 use mathlib.Core.Path.{sym, ◌∙◌}
-use native.Mathlib.Omega.{arith}
 use Rattle.draw.proofs.Clips.{drawn_clip}
 use Rattle.draw.proofs.Loops.{drew_as}
 use Rattle.gfx.proofs.Answers.{refused_shape, accepted_shape}
@@ -15,9 +14,6 @@ pub store_box-steps-requires : goal.store_box-steps-requires
 store_box-steps-requires c =
     let canvas = c.args.canvas in
     rw c.clipped-bb.ensures (canvas_fits canvas _ canvas.clip (open_of _ _ (sym c.px_number-number.ensures ∙ c.if-number-ne0.false)))
-
-pub overflow_cast-steps : goal.overflow_cast-steps
-overflow_cast-steps c = omega (arith, c.store_box-steps.ensures.few)
 
 pub returns : goal.returns
 returns c =

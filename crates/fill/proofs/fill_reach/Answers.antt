@@ -5,7 +5,7 @@ use Rattle.fill.proofs.fill_reach.Goals as goal
 
 pub returns-then-is_empty : goal.returns-then-is_empty
 unfolding fill_reach no_box
-returns-then-is_empty c = rw (← c.is_empty.ensures, c.if-is_empty.true, c.new.ensures)
+returns-then-is_empty c = rw (← c.is_empty.ensures, c.if-is_empty.true)
 
 pub returns : goal.returns
 unfolding fill_reach

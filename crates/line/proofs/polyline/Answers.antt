@@ -1,6 +1,5 @@
 -- `line::polyline` meets its contract. Assumes nothing.
 use mathlib.Core.Path.{◌≡◌, ◌∙◌, sym}
-use native.Mathlib.Omega.{arith}
 use lib.ListN.{length}
 use Rattle.geom.specs.Plane.{float_ok}
 use Rattle.gfx.specs.Points.{points_number}
@@ -21,9 +20,6 @@ pub draw_lines-steps-requires : goal.draw_lines-steps-requires
 draw_lines-steps-requires c =
     let o = points_open _ _ _ _ (sym (number (goal.at.draw_lines-steps-requires c).After-points_number-number) ∙ c.if-number-ne0.false) in
     record { area_fits = λ reach. canvas_fits _ _ reach o.canvas; pts_len_bound = points_few _ o.points }
-
-pub overflow_cast-steps : goal.overflow_cast-steps
-overflow_cast-steps c = omega (arith, c.draw_lines-steps.ensures.few)
 
 pub returns : goal.returns
 returns c =
