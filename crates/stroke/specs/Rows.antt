@@ -62,10 +62,6 @@ pub record Ready (o : Frame) : Type 0 where
   pub bent : GapOf o.s o.width true o.bent
   pub straight : GapOf o.s o.width false o.straight
 
--- one coverage for a whole part
-unfoldable pub level_ink : Color → ℕ → ℕ → ℕ → ℕ → ℕ
-level_ink c cv x y p = over_c p c cv
-
 -- the coverage of a column by its own distance
 unfoldable pub column_cover : Rounded → Float → ℕ → ℕ
 column_cover s width x = band_cover (fabs_of (centre_of x -ᶠ s.cx) -ᶠ (s.hw -ᶠ s.r) -ᶠ s.r) width
@@ -73,7 +69,3 @@ column_cover s width x = band_cover (fabs_of (centre_of x -ᶠ s.cx) -ᶠ (s.hw 
 -- that of the column k past x0, in the row with the centre yc
 unfoldable pub band_at : Rounded → Float → Float → ℕ → ℕ → ℕ
 band_at s width yc x0 k = band_cover (rounded_sd s (centre_of (x0 + k)) yc) width
-
--- each column by its coverage, of which x0 has the first
-unfoldable pub each_ink : Color → ℕ → List ℕ → ℕ → ℕ → ℕ → ℕ
-each_ink c x0 covers x y p = over_c p c (get_or covers (x - x0) 0)

@@ -3,20 +3,21 @@
 
 ghost use Rattle.std.specs.Prelude.{◌≡◌, true, false, ◌+◌, ◌<◌, ◌≤◌, T, Float, length};
 ghost use Rattle.mathf.specs.F32.{◌+ᶠ◌, ◌-ᶠ◌, ◌*ᶠ◌, ◌≤ᶠ◌, f0, f1};
+ghost use Rattle.mathf.specs.Order.{fabs_of};
 ghost use Rattle.mathf.specs.Root.{sqrt_of};
 ghost use Rattle.geom.specs.Int.{up};
 ghost use Rattle.draw.specs.Draw.{drawn};
 ghost use Rattle.draw.specs.Held.{Holds};
-ghost use Rattle.draw.specs.Areas.{RowFits, AreaFits, DrewRow, DrewIn};
+ghost use Rattle.draw.specs.Areas.{SpanFits, DrewSpan, AreaFits, DrewIn};
 ghost use Rattle.gfx.specs.Calls.{ShapeCalled, shape_number};
 ghost use Rattle.paints.specs.Paints.{circle_rect, rounded_sd, centre_of};
 ghost use Rattle.stroke.specs.Stroke.{stroke_ok, stroke_reach, band_cover, full_row, corner_row, band_ink, outline_ink, stroke_ink};
 ghost use Rattle.stroke.specs.Stroke.{ring_ok};
 ghost use Rattle.stroke.specs.Rows.{LevelOf, BlankFrom, BlankUpto, width_of, GapOf, RowGap, LevelIn, LevelPart, Ready};
-ghost use Rattle.stroke.specs.Rows.{level_ink, column_cover, band_at, each_ink};
+ghost use Rattle.stroke.specs.Rows.{column_cover, band_at};
 
 use color::{Color, blend_c, blend_c_wide};
-use draw::{Area, between, clipped};
+use draw::{Area, Span, clipped};
 use geom::{IRect, Rect, floats_ok, nat_of};
 use gfx::{Canvas, Counted};
 use paints::{Rounded, both_positive, centre};
@@ -82,18 +83,19 @@ fn gap(s: Rounded, width: f32, corner: bool) -> Columns
     Columns { from, upto }
 }
 
+// How far a point is past the straight parts of the top and the bottom.
+fn past_sides(s: Rounded, xc: f32) -> f32
+    ensures { result ≡ fabs_of (xc -ᶠ s.cx) -ᶠ (s.hw -ᶠ s.r) }
+{
+    mathf::fabs(xc - s.cx) - (s.hw - s.r)
+}
+
 // Whether no column from a up to b is past the straight parts of the top and the bottom.
 fn level_columns(s: Rounded, a: usize, b: usize) -> bool
     requires { b ≤ 2048 }
     ensures { T result → LevelIn s a b }
 {
-    for x in a..b {
-        let qx = mathf::fabs(centre(x as u16) - s.cx) - (s.hw - s.r);
-        if !(qx <= 0.0) {
-            return false;
-        }
-    }
-    true
+    (a..b).all(|x| past_sides(s, centre(x as u16)) <= 0.0)
 }
 
 // Such columns between x0 and x1; none where they were not found.
@@ -101,16 +103,9 @@ fn level_part(s: Rounded, x0: usize, x1: usize) -> Columns
     requires { (x0 ≤ x1) × (x1 ≤ 2048) }
     ensures { LevelPart s x0 x1 result }
 {
-    let from = between(
-        nat_of(mathf::to_i32(mathf::ceil(s.cx - (s.hw - s.r)))),
-        x0,
-        x1,
-    );
-    let upto = between(
-        nat_of(mathf::to_i32(mathf::floor(s.cx + (s.hw - s.r)))),
-        from,
-        x1,
-    );
+    let half = s.hw - s.r;
+    let from = nat_of(mathf::to_i32(mathf::ceil(s.cx - half))).min(x1).max(x0);
+    let upto = nat_of(mathf::to_i32(mathf::floor(s.cx + half))).min(x1).max(from);
     if level_columns(s, from, upto) {
         return Columns { from, upto };
     }
@@ -204,7 +199,7 @@ fn corner_cover(r: f32, width: f32, l: Level, qx: f32) -> u32
 fn level_cover(s: Rounded, width: f32, l: Level, xc: f32) -> u32
     ensures { (yc : Float) → LevelOf s width yc l → result ≡ band_cover (rounded_sd s xc yc) width }
 {
-    let qx = mathf::fabs(xc - s.cx) - (s.hw - s.r);
+    let qx = past_sides(s, xc);
     if both_positive(qx, l.qy) {
         return corner_cover(s.r, width, l, qx);
     }
@@ -219,7 +214,7 @@ fn column_cover(s: Rounded, width: f32, x: usize) -> u32
     requires { x < 2048 }
     ensures { result ≡ column_cover s width x }
 {
-    let qx = mathf::fabs(centre(x as u16) - s.cx) - (s.hw - s.r);
+    let qx = past_sides(s, centre(x as u16));
     band_cover(qx - s.r, width)
 }
 
@@ -241,36 +236,18 @@ fn side_cover(s: Rounded, l: Level, x: usize, col: u32) -> u32
     ensures { (width yc : Float) → LevelOf s width yc l → (l.qy ≤ᶠ f0) ≡ true → col ≡ column_cover s width x → result
         ≡ band_cover (rounded_sd s (centre_of x) yc) width }
 {
-    let qx = mathf::fabs(centre(x as u16) - s.cx) - (s.hw - s.r);
+    let qx = past_sides(s, centre(x as u16));
     if qx > l.qy { col } else { l.level }
 }
 
-// A part of such a row y.
-fn side_span(
-    px: &mut [u32],
-    cols: &[u32; 2048],
-    pitch: usize,
-    y: usize,
-    x0: usize,
-    x1: usize,
-    o: Frame,
-    l: Level,
-) -> u32
-    requires row_fits { RowFits pitch y x0 x1 (length px.old) }
-    requires level_of { LevelOf o.s o.width (centre_of y) l × ((l.qy ≤ᶠ f0) ≡ true)
-        × Holds (column_cover o.s o.width) x0 x1 cols.now }
-    ensures { DrewRow pitch y x0 x1 (band_ink o.s o.width o.c) px.old result px.new }
+// A part of such a row.
+fn side_span(px: &mut [u32], cols: &[u32; 2048], row: Span, o: Frame, l: Level) -> u32
+    requires row_fits { SpanFits row (length px.old) }
+    requires level_of { LevelOf o.s o.width (centre_of row.y) l × ((l.qy ≤ᶠ f0) ≡ true)
+        × Holds (column_cover o.s o.width) row.x0 row.x1 cols.now }
+    ensures { DrewSpan row (band_ink o.s o.width o.c) px.old result px.new }
 {
-    let row = y * pitch;
-    let mut n = 0;
-    for x in x0..x1 {
-        let cv = side_cover(o.s, l, x, cols[x]);
-        let i = row + x;
-        let q = blend_c_wide(px[i], o.c, cv);
-        px[i] = q.value;
-        n += q.altered as u32;
-    }
-    n
+    row.draw(px, |x, p| blend_c_wide(p, o.c, side_cover(o.s, l, x, cols[x])))
 }
 
 // The coverages of n columns from x0 on of any other row.
@@ -285,168 +262,82 @@ fn covers(s: Rounded, width: f32, l: Level, x0: usize, n: usize) -> [u32; 128]
     covers
 }
 
-// A part of row y, each column by its coverage.
-fn each_span(
-    px: &mut [u32],
-    covers: &[u32; 128],
-    pitch: usize,
-    y: usize,
-    x0: usize,
-    x1: usize,
-    c: Color,
-) -> u32
-    requires row_fits { RowFits pitch y x0 x1 (length px.old) }
-    requires x1_bound { x1 ≤ x0 + 128 }
-    ensures { DrewRow pitch y x0 x1 (each_ink c x0 covers.now) px.old result px.new }
+// At most 128 columns of such a row, by distance: their coverages first, then all pixels.
+fn corner_part(px: &mut [u32], row: Span, o: Frame, l: Level) -> u32
+    requires row_fits { SpanFits row (length px.old) }
+    requires level_of { LevelOf o.s o.width (centre_of row.y) l }
+    requires x1_bound { row.x1 ≤ row.x0 + 128 }
+    ensures { DrewSpan row (band_ink o.s o.width o.c) px.old result px.new }
 {
-    let row = y * pitch;
+    let covers = covers(o.s, o.width, l, row.x0, row.x1 - row.x0);
+    row.draw(px, |x, p| blend_c_wide(p, o.c, covers[x - row.x0]))
+}
+
+// A part of such a row.
+fn corner_span(px: &mut [u32], row: Span, o: Frame, l: Level) -> u32
+    requires row_fits { SpanFits row (length px.old) }
+    requires level_of { LevelOf o.s o.width (centre_of row.y) l }
+    ensures { DrewSpan row (band_ink o.s o.width o.c) px.old result px.new }
+{
     let mut n = 0;
-    for x in x0..x1 {
-        let i = row + x;
-        let q = blend_c_wide(px[i], c, covers[x - x0]);
-        px[i] = q.value;
-        n += q.altered as u32;
+    for x in (row.x0..row.x1).step_by(128) {
+        let part = Span {
+            x0: x,
+            x1: (x + 128).min(row.x1),
+            ..row
+        };
+        n += corner_part(px, part, o, l);
     }
     n
 }
 
-// At most 128 columns of such a row y, by distance: their coverages first, then all pixels.
-fn corner_part(
-    px: &mut [u32],
-    pitch: usize,
-    y: usize,
-    x0: usize,
-    x1: usize,
-    o: Frame,
-    l: Level,
-) -> u32
-    requires row_fits { RowFits pitch y x0 x1 (length px.old) }
-    requires level_of { LevelOf o.s o.width (centre_of y) l }
-    requires x1_bound { x1 ≤ x0 + 128 }
-    ensures { DrewRow pitch y x0 x1 (band_ink o.s o.width o.c) px.old result px.new }
-{
-    let covers = covers(o.s, o.width, l, x0, x1 - x0);
-    each_span(px, &covers, pitch, y, x0, x1, o.c)
-}
-
-// A part of such a row y.
-fn corner_span(
-    px: &mut [u32],
-    pitch: usize,
-    y: usize,
-    x0: usize,
-    x1: usize,
-    o: Frame,
-    l: Level,
-) -> u32
-    requires row_fits { RowFits pitch y x0 x1 (length px.old) }
-    requires level_of { LevelOf o.s o.width (centre_of y) l }
-    ensures { DrewRow pitch y x0 x1 (band_ink o.s o.width o.c) px.old result px.new }
-{
-    let mut x = x0;
-    let mut n = 0;
-    while x < x1 {
-        let next = between(x + 128, x, x1);
-        n += corner_part(px, pitch, y, x, next, o, l);
-        x = next;
-    }
-    n
-}
-
-// A part of row y: what its columns share comes with it.
-fn band_span(
-    px: &mut [u32],
-    cols: &[u32; 2048],
-    pitch: usize,
-    y: usize,
-    x0: usize,
-    x1: usize,
-    o: Frame,
-    l: Level,
-) -> u32
-    requires row_fits { RowFits pitch y x0 x1 (length px.old) }
-    requires level_of { LevelOf o.s o.width (centre_of y) l × Holds (column_cover o.s o.width) x0 x1 cols.now }
-    ensures { DrewRow pitch y x0 x1 (band_ink o.s o.width o.c) px.old result px.new }
+// A part of a row: what its columns share comes with it.
+fn band_span(px: &mut [u32], cols: &[u32; 2048], row: Span, o: Frame, l: Level) -> u32
+    requires row_fits { SpanFits row (length px.old) }
+    requires level_of { LevelOf o.s o.width (centre_of row.y) l × Holds (column_cover o.s o.width) row.x0 row.x1 cols.now }
+    ensures { DrewSpan row (band_ink o.s o.width o.c) px.old result px.new }
 {
     if l.qy <= 0.0 {
-        side_span(px, cols, pitch, y, x0, x1, o, l)
+        side_span(px, cols, row, o, l)
     } else {
-        corner_span(px, pitch, y, x0, x1, o, l)
+        corner_span(px, row, o, l)
     }
 }
 
-// A part of row y at one coverage.
-fn level_span(
-    px: &mut [u32],
-    pitch: usize,
-    y: usize,
-    x0: usize,
-    x1: usize,
-    c: Color,
-    cv: u32,
-) -> u32
-    requires { RowFits pitch y x0 x1 (length px.old) }
-    ensures { DrewRow pitch y x0 x1 (level_ink c cv) px.old result px.new }
-{
-    let row = y * pitch;
-    let mut n = 0;
-    for x in x0..x1 {
-        let i = row + x;
-        let q = blend_c(px[i], c, cv);
-        px[i] = q.value;
-        n += q.altered as u32;
-    }
-    n
-}
-
-// Row y where it is full: beside no corner it has one coverage.
-fn full_span(
-    px: &mut [u32],
-    pitch: usize,
-    y: usize,
-    x0: usize,
-    x1: usize,
-    o: Frame,
-    l: Level,
-) -> u32
-    requires row_fits { RowFits pitch y x0 x1 (length px.old) }
-    requires level_of { LevelOf o.s o.width (centre_of y) l × LevelPart o.s x0 x1 o.level }
-    ensures { DrewRow pitch y x0 x1 (band_ink o.s o.width o.c) px.old result px.new }
+// A row where it is full: beside no corner it has one coverage.
+fn full_span(px: &mut [u32], row: Span, o: Frame, l: Level) -> u32
+    requires row_fits { SpanFits row (length px.old) }
+    requires level_of { LevelOf o.s o.width (centre_of row.y) l × LevelPart o.s row.x0 row.x1 o.level }
+    ensures { DrewSpan row (band_ink o.s o.width o.c) px.old result px.new }
 {
     if l.qy >= 0.0 {
-        let a = o.level.from;
-        let b = o.level.upto;
-        let left = corner_span(px, pitch, y, x0, a, o, l);
-        let middle = level_span(px, pitch, y, a, b, o.c, l.level);
-        let right = corner_span(px, pitch, y, b, x1, o, l);
-        left + middle + right
+        let Columns { from, upto } = o.level;
+        let middle = Span {
+            x0: from,
+            x1: upto,
+            ..row
+        };
+        let left = corner_span(px, Span { x1: from, ..row }, o, l);
+        let between = middle.draw(px, |_, p| blend_c(p, o.c, l.level));
+        let right = corner_span(px, Span { x0: upto, ..row }, o, l);
+        left + between + right
     } else {
-        corner_span(px, pitch, y, x0, x1, o, l)
+        corner_span(px, row, o, l)
     }
 }
 
-// The two sides of row y, with a gap between them.
-fn side_spans(
-    px: &mut [u32],
-    cols: &[u32; 2048],
-    pitch: usize,
-    y: usize,
-    x0: usize,
-    x1: usize,
-    o: Frame,
-    l: Level,
-    g: Columns,
-) -> u32
-    requires row_fits { RowFits pitch y x0 x1 (length px.old) }
-    requires level_of { LevelOf o.s o.width (centre_of y) l × RowGap o.s o.width (centre_of y) g
-        × (full_row o.s (o.width +ᶠ f1) (centre_of y) ≡ false) }
-    requires holds { Holds (column_cover o.s o.width) x0 x1 cols.now }
-    ensures { DrewRow pitch y x0 x1 (outline_ink o.s o.width o.c) px.old result px.new }
+// The two sides of a row, with a gap between them.
+fn side_spans(px: &mut [u32], cols: &[u32; 2048], row: Span, o: Frame, l: Level, g: Columns) -> u32
+    requires row_fits { SpanFits row (length px.old) }
+    requires level_of { LevelOf o.s o.width (centre_of row.y) l × RowGap o.s o.width (centre_of row.y) g
+        × (full_row o.s (o.width +ᶠ f1) (centre_of row.y) ≡ false) }
+    requires holds { Holds (column_cover o.s o.width) row.x0 row.x1 cols.now }
+    ensures { DrewSpan row (outline_ink o.s o.width o.c) px.old result px.new }
 {
-    let a = between(g.from, x0, x1);
-    let b = between(g.upto, a, x1);
-    let left = band_span(px, cols, pitch, y, x0, a, o, l);
-    let right = band_span(px, cols, pitch, y, b, x1, o, l);
+    let a = g.from.min(row.x1).max(row.x0);
+    let b = g.upto.min(row.x1).max(a);
+    let left = band_span(px, cols, Span { x1: a, ..row }, o, l);
+    let right = band_span(px, cols, Span { x0: b, ..row }, o, l);
     left + right
 }
 
@@ -462,45 +353,19 @@ fn row_gap(o: Frame, yc: f32) -> Columns
     }
 }
 
-// Row y: whole, or its two sides.
-fn outline_row(
-    px: &mut [u32],
-    cols: &[u32; 2048],
-    pitch: usize,
-    y: usize,
-    x0: usize,
-    x1: usize,
-    o: Frame,
-) -> u32
-    requires row_fits { RowFits pitch y x0 x1 (length px.old) }
-    requires ready { Ready o × LevelPart o.s x0 x1 o.level × Holds (column_cover o.s o.width) x0 x1 cols.now }
-    ensures { DrewRow pitch y x0 x1 (outline_ink o.s o.width o.c) px.old result px.new }
+// A row: whole, or its two sides.
+fn outline_row(px: &mut [u32], cols: &[u32; 2048], row: Span, o: Frame) -> u32
+    requires row_fits { SpanFits row (length px.old) }
+    requires ready { Ready o × LevelPart o.s row.x0 row.x1 o.level × Holds (column_cover o.s o.width) row.x0 row.x1 cols.now }
+    ensures { DrewSpan row (outline_ink o.s o.width o.c) px.old result px.new }
 {
-    let yc = centre(y as u16);
+    let yc = centre(row.y as u16);
     let l = level_of(o, yc);
     if full_row(o.s, o.width + 1.0, yc) {
-        full_span(px, pitch, y, x0, x1, o, l)
+        full_span(px, row, o, l)
     } else {
-        side_spans(px, cols, pitch, y, x0, x1, o, l, row_gap(o, yc))
+        side_spans(px, cols, row, o, l, row_gap(o, yc))
     }
-}
-
-// The rows of an area.
-fn outline_box(px: &mut [u32], cols: &[u32; 2048], pitch: usize, b: Area, o: Frame) -> u32
-    requires area_fits { AreaFits pitch b (length px.old) }
-    requires ready { Ready o × LevelPart o.s b.x0 b.x1 o.level
-        × Holds (column_cover o.s o.width) b.x0 b.x1 cols.now }
-    ensures { DrewIn pitch b (outline_ink o.s o.width o.c) px.old result px.new }
-{
-    let x0 = b.x0;
-    let x1 = b.x1;
-    let y0 = b.y0;
-    let y1 = b.y1;
-    let mut n = 0;
-    for y in y0..y1 {
-        n += outline_row(px, cols, pitch, y, x0, x1, o);
-    }
-    n
 }
 
 // An area of the outline of a rectangle: what its rows share is worked out first.
@@ -522,7 +387,7 @@ fn outline_all(px: &mut [u32], pitch: usize, b: Area, s: Rounded, width: f32, c:
         near: blank_upto(s.r, width),
     };
     let cols = column_covers(s, width, b.x0, b.x1);
-    outline_box(px, &cols, pitch, b, o)
+    b.draw(px, pitch, |px, row| outline_row(px, &cols, row, o))
 }
 
 // The same, where the area has rows.

@@ -8,4 +8,4 @@ overflow_cast-x c = omega arith
 
 pub returns : goal.returns
 unfolding column_cover
-returns c = rw (c.fabs.ensures, c.centre.ensures) at c.band_cover.ensures
+returns c = rw (c.past_sides-qx.ensures, c.centre.ensures) at c.band_cover.ensures

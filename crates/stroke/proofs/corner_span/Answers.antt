@@ -1,37 +1,29 @@
--- `stroke::corner_span` meets its contract. The columns before x are drawn. Assumes nothing.
-use mathlib.Core.Path.{refl}
+-- `stroke::corner_span` meets its contract. The columns before x are drawn, as far as the span goes. Assumes nothing.
 use native.Mathlib.Omega.{arith}
-use Rattle.draw.proofs.Loops.{row_start_lem, row_span, row_end}
+use Rattle.std.proofs.Common.{◌≡◌, ◌+◌, min, refl}
+use Rattle.draw.proofs.Loops.{InRow, row_start_lem, row_span, row_end}
 use Rattle.stroke.specs.Stroke.{band_ink}
+use Rattle.stroke.proofs.corner_span.Goals.{After-corner_part-n}
 use Rattle.stroke.proofs.corner_span.Goals as goal
 
 pub loop-x-init : goal.loop-x-init
 loop-x-init c =
     let o = c.args.o in
-    row_start_lem _ (band_ink o.s o.width o.c) _ _ _ _ c.requires.row_fits.order
+    let row = c.args.row in
+    let first : min row.x0 row.x1 ≡ row.x0 = omega arith in
+    rw first (row_start_lem row.pitch (band_ink o.s o.width o.c) row.y row.x0 row.x1 _ c.requires.row_fits.order)
 
-pub overflow_add-x : goal.overflow_add-x
-overflow_add-x c = omega arith
-
-pub between-next-requires : goal.between-next-requires
-between-next-requires c = omega arith
-
-pub corner_part-n-requires : goal.corner_part-n-requires
-corner_part-n-requires c = record { row_fits = omega arith; level_of = c.requires.level_of; x1_bound = omega arith }
-
-pub overflow_add-n : goal.overflow_add-n
-overflow_add-n c = omega arith
-
-pub loop-x-smaller : goal.loop-x-smaller
-loop-x-smaller c = omega arith
+-- the columns of a part are drawn
+drawn : (c : After-corner_part-n) → let a = c.args in
+    InRow a.row.pitch (band_ink a.o.s a.o.width a.o.c) a.row.y a.row.x0 a.row.x1 a.px.now c.corner_part-n.new.px
+    (c.loop-x.n + c.corner_part-n.result) (min (c.loop-x.x + 128) a.row.x1)
+drawn c =
+    let o = c.args.o in
+    let here : min c.loop-x.x c.args.row.x1 ≡ c.loop-x.x = omega arith in
+    row_span (band_ink o.s o.width o.c) _ _ (rw here at c.loop-x.invariant) (omega arith) (omega arith) (rw c.min.ensures at c.corner_part-n.ensures) (λ j p l h. refl)
 
 pub loop-x-preserved : goal.loop-x-preserved
-loop-x-preserved c =
-    let o = c.args.o in
-    row_span (band_ink o.s o.width o.c) _ _ c.loop-x.invariant (omega arith) (omega arith) c.corner_part-n.ensures (λ j p l h. refl)
+loop-x-preserved c = drawn (goal.at.loop-x-preserved c).After-corner_part-n
 
-pub shape_of-px : goal.shape_of-px
-shape_of-px c = omega arith
-
-pub returns : goal.returns
-returns c = row_end c.loop-x.invariant c.loop-x-test.false
+pub returns-2 : goal.returns-2
+returns-2 c = row_end (drawn (goal.at.returns-2 c).After-corner_part-n) (omega arith)

@@ -4,12 +4,6 @@ use Rattle.mathf.proofs.Saturating.{passed}
 use Rattle.stroke.proofs.Levels.{level_none}
 use Rattle.stroke.proofs.level_part.Goals as goal
 
-pub between-from-requires : goal.between-from-requires
-between-from-requires c = omega arith
-
-pub between-upto-requires : goal.between-upto-requires
-between-upto-requires c = omega arith
-
 pub level_columns-requires : goal.level_columns-requires
 level_columns-requires c = omega arith
 

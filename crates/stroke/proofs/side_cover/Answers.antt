@@ -15,7 +15,7 @@ unfolding rrect_sd corner_sd column_cover
 returns-then-qx-l c =
     λ width yc k low col.
     let args = c.args in
-    let e = rw (c.fabs.ensures, c.centre.ensures) at c.if-qx-l.true in
+    let e = rw (c.past_sides-qx.ensures, c.centre.ensures) at c.if-qx-l.true in
     rw (← k.past, not_above args.l.qy f0 low, and-false, e) col
 
 pub returns-else-qx-l : goal.returns-else-qx-l
@@ -23,5 +23,5 @@ unfolding rrect_sd corner_sd column_cover
 returns-else-qx-l c =
     λ width yc k low col.
     let args = c.args in
-    let e = rw (c.fabs.ensures, c.centre.ensures) at c.if-qx-l.false in
+    let e = rw (c.past_sides-qx.ensures, c.centre.ensures) at c.if-qx-l.false in
     rw (← k.past, not_above args.l.qy f0 low, and-false, e) k.covered
