@@ -1,7 +1,7 @@
 // The outline of a rounded rectangle, and of a circle. What draws returns how many pixels' values it altered.
 #![tactic(auto)]
 
-ghost use Rattle.std.specs.Prelude.{◌≡◌, true, false, ◌+◌, ◌<◌, ◌≤◌, T, Float, length};
+ghost use Rattle.std.specs.Prelude.{◌≡◌, true, false, ℕ, ◌+◌, ◌<◌, ◌≤◌, T, Float, length};
 ghost use Rattle.mathf.specs.F32.{◌+ᶠ◌, ◌-ᶠ◌, ◌*ᶠ◌, ◌≤ᶠ◌, f0, f1};
 ghost use Rattle.mathf.specs.Order.{fabs_of};
 ghost use Rattle.mathf.specs.Root.{sqrt_of};
@@ -71,6 +71,19 @@ fn side_width(s: Rounded, width: f32, corner: bool) -> f32
     ensures { result ≡ width_of corner s width }
 {
     if corner { s.r + 1.0 } else { width + 1.0 }
+}
+
+// Numbers of which the places from x0 up to x1 are filled by a function.
+fn filled<const N: usize, F: Fn(usize) -> u32>(x0: usize, x1: usize, f: F) -> [u32; N]
+    requires places { (x0 ≤ x1) × (x1 ≤ N) }
+    requires callable { (x : ℕ) → x0 ≤ x → x < x1 → F.pre f x }
+    ensures { (g : ℕ → ℕ) → ((x v : ℕ) → x0 ≤ x → x < x1 → F.post f x v → v ≡ g x) → Holds g x0 x1 result }
+{
+    let mut row = [0; N];
+    for x in x0..x1 {
+        row[x] = f(x);
+    }
+    row
 }
 
 // The columns between the two sides of a row that is not full: of one that passes a rounded corner, or of any other.
@@ -218,18 +231,6 @@ fn column_cover(s: Rounded, width: f32, x: usize) -> u32
     band_cover(qx - s.r, width)
 }
 
-// That of the columns x0 up to x1, which the rows beside the straight sides share: filled once a call.
-fn column_covers(s: Rounded, width: f32, x0: usize, x1: usize) -> [u32; 2048]
-    requires { (x0 ≤ x1) × (x1 ≤ 2048) }
-    ensures { Holds (column_cover s width) x0 x1 result }
-{
-    let mut cols = [0u32; 2048];
-    for x in x0..x1 {
-        cols[x] = column_cover(s, width, x);
-    }
-    cols
-}
-
 // The coverage of column x of a row that is past no side, from that of its column.
 fn side_cover(s: Rounded, l: Level, x: usize, col: u32) -> u32
     requires { x < 2048 }
@@ -250,18 +251,6 @@ fn side_span(px: &mut [u32], cols: &[u32; 2048], row: Span, o: Frame, l: Level) 
     row.draw(px, |x, p| blend_c_wide(p, o.c, side_cover(o.s, l, x, cols[x])))
 }
 
-// The coverages of n columns from x0 on of any other row.
-fn covers(s: Rounded, width: f32, l: Level, x0: usize, n: usize) -> [u32; 128]
-    requires { (x0 + n ≤ 2048) × (n ≤ 128) }
-    ensures { (yc : Float) → LevelOf s width yc l → Holds (band_at s width yc x0) 0 n result }
-{
-    let mut covers = [0u32; 128];
-    for k in 0..n {
-        covers[k] = level_cover(s, width, l, centre((x0 + k) as u16));
-    }
-    covers
-}
-
 // At most 128 columns of such a row, by distance: their coverages first, then all pixels.
 fn corner_part(px: &mut [u32], row: Span, o: Frame, l: Level) -> u32
     requires row_fits { SpanFits row (length px.old) }
@@ -269,7 +258,7 @@ fn corner_part(px: &mut [u32], row: Span, o: Frame, l: Level) -> u32
     requires x1_bound { row.x1 ≤ row.x0 + 128 }
     ensures { DrewSpan row (band_ink o.s o.width o.c) px.old result px.new }
 {
-    let covers = covers(o.s, o.width, l, row.x0, row.x1 - row.x0);
+    let covers: [u32; 128] = filled(0, row.x1 - row.x0, |k| level_cover(o.s, o.width, l, centre((row.x0 + k) as u16)));
     row.draw(px, |x, p| blend_c_wide(p, o.c, covers[x - row.x0]))
 }
 
@@ -386,7 +375,7 @@ fn outline_all(px: &mut [u32], pitch: usize, b: Area, s: Rounded, width: f32, c:
         far: blank_from(s.r),
         near: blank_upto(s.r, width),
     };
-    let cols = column_covers(s, width, b.x0, b.x1);
+    let cols = filled(b.x0, b.x1, |x| column_cover(s, width, x));
     b.draw(px, pitch, |px, row| outline_row(px, &cols, row, o))
 }
 

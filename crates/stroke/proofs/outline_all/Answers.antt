@@ -1,10 +1,17 @@
 -- `stroke::outline_all` meets its contract. Assumes nothing.
 use Rattle.std.proofs.Common.{rules}
 use Rattle.stroke.specs.Stroke.{outline_ink}
+use Rattle.stroke.specs.Rows.{column_cover}
 use Rattle.stroke.proofs.outline_all.Goals as goal
 
 pub draw-requires-clause-draws : goal.draw-requires-clause-draws
-draw-requires-clause-draws c = let a = c.args in (outline_ink a.s a.width a.c, λ px y n px' u v w e. search rules)
+draw-requires-clause-draws c =
+    let a = c.args in
+    let k = c.filled-cols.ensures (column_cover a.s a.width) (λ x q u v e. search rules) in
+    (outline_ink a.s a.width a.c, λ px y n px' u v w e. search rules)
 
 pub returns : goal.returns
-returns c = let a = c.args in c.draw.ensures (outline_ink a.s a.width a.c) (λ px y n px' u v w e. search rules)
+returns c =
+    let a = c.args in
+    let k = c.filled-cols.ensures (column_cover a.s a.width) (λ x q u v e. search rules) in
+    c.draw.ensures (outline_ink a.s a.width a.c) (λ px y n px' u v w e. search rules)
