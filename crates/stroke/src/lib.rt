@@ -13,7 +13,7 @@ ghost use Rattle.gfx.specs.Calls.{ShapeCalled, shape_number};
 ghost use Rattle.paints.specs.Paints.{circle_rect, rounded_sd, centre_of};
 ghost use Rattle.stroke.specs.Stroke.{stroke_ok, stroke_reach, band_cover, full_row, corner_row, band_ink, outline_ink, stroke_ink};
 ghost use Rattle.stroke.specs.Stroke.{ring_ok};
-ghost use Rattle.stroke.specs.Rows.{LevelOf, BlankFrom, BlankUpto, width_of, GapOf, RowGap, LevelIn, LevelPart, Ready};
+ghost use Rattle.stroke.specs.Rows.{BlankFrom, BlankUpto, width_of, GapOf, RowGap, LevelIn, LevelPart};
 ghost use Rattle.stroke.specs.Rows.{column_cover, band_at};
 
 use color::{Color, blend_c, blend_c_wide};
@@ -117,8 +117,12 @@ fn level_part(s: Rounded, x0: usize, x1: usize) -> Columns
     ensures { LevelPart s x0 x1 result }
 {
     let half = s.hw - s.r;
-    let from = nat_of(mathf::to_i32(mathf::ceil(s.cx - half))).min(x1).max(x0);
-    let upto = nat_of(mathf::to_i32(mathf::floor(s.cx + half))).min(x1).max(from);
+    let from = nat_of(mathf::to_i32(mathf::ceil(s.cx - half)))
+        .min(x1)
+        .max(x0);
+    let upto = nat_of(mathf::to_i32(mathf::floor(s.cx + half)))
+        .min(x1)
+        .max(from);
     if level_columns(s, from, upto) {
         return Columns { from, upto };
     }
@@ -137,6 +141,10 @@ struct Frame {
     level: Columns,
     far: f32,
     near: f32,
+    ghost outside: { BlankFrom s.r width far },
+    ghost inside: { BlankUpto s.r width near },
+    ghost bent_gap: { GapOf s width true bent },
+    ghost straight_gap: { GapOf s width false straight },
 }
 
 // A squared distance of a corner's centre just over half a pixel outside the band, from which on it covers nothing; a NaN where
@@ -168,58 +176,16 @@ fn blank_upto(r: f32, width: f32) -> f32
     }
 }
 
-// What the columns of a row share: how far it is past the sides, its coverage beside the corners, and where a corner's is known.
+// What the columns of a row share: the outline, the row's centre, how far that is past the sides, and its coverage beside the
+// corners.
 #[derive(Clone, Copy)]
 struct Level {
+    o: Frame,
+    yc: f32,
     qy: f32,
     level: u32,
-    far: f32,
-    near: f32,
-}
-
-fn level_of(o: Frame, yc: f32) -> Level
-    requires { Ready o }
-    ensures { LevelOf o.s o.width yc result }
-{
-    let qy = mathf::fabs(yc - o.s.cy) - (o.s.hh - o.s.r);
-    let level = band_cover(qy - o.s.r, o.width);
-    let far = o.far;
-    let near = o.near;
-    Level {
-        qy,
-        level,
-        far,
-        near,
-    }
-}
-
-// The coverage of a point qx past one side and as far past the other as its row is: a root only near the band.
-fn corner_cover(r: f32, width: f32, l: Level, qx: f32) -> u32
-    ensures { BlankFrom r width l.far → BlankUpto r width l.near → result
-        ≡ band_cover (sqrt_of (qx *ᶠ qx +ᶠ l.qy *ᶠ l.qy) -ᶠ r) width }
-{
-    let d = qx * qx + l.qy * l.qy;
-    if l.far <= d {
-        return 0;
-    }
-    if d <= l.near {
-        return 0;
-    }
-    band_cover(mathf::sqrt(d) - r, width)
-}
-
-// The coverage of a point of such a row.
-fn level_cover(s: Rounded, width: f32, l: Level, xc: f32) -> u32
-    ensures { (yc : Float) → LevelOf s width yc l → result ≡ band_cover (rounded_sd s xc yc) width }
-{
-    let qx = past_sides(s, xc);
-    if both_positive(qx, l.qy) {
-        return corner_cover(s.r, width, l, qx);
-    }
-    if qx > l.qy {
-        return band_cover(qx - s.r, width);
-    }
-    l.level
+    ghost past: { qy ≡ fabs_of (yc -ᶠ o.s.cy) -ᶠ (o.s.hh -ᶠ o.s.r) },
+    ghost covered: { level ≡ band_cover (qy -ᶠ o.s.r) o.width },
 }
 
 // The coverage of column x by its own distance.
@@ -231,129 +197,187 @@ fn column_cover(s: Rounded, width: f32, x: usize) -> u32
     band_cover(qx - s.r, width)
 }
 
-// The coverage of column x of a row that is past no side, from that of its column.
-fn side_cover(s: Rounded, l: Level, x: usize, col: u32) -> u32
-    requires { x < 2048 }
-    ensures { (width yc : Float) → LevelOf s width yc l → (l.qy ≤ᶠ f0) ≡ true → col ≡ column_cover s width x → result
-        ≡ band_cover (rounded_sd s (centre_of x) yc) width }
-{
-    let qx = past_sides(s, centre(x as u16));
-    if qx > l.qy { col } else { l.level }
-}
-
-// A part of such a row.
-fn side_span(px: &mut [u32], cols: &[u32; 2048], row: Span, o: Frame, l: Level) -> u32
-    requires row_fits { SpanFits row (length px.old) }
-    requires level_of { LevelOf o.s o.width (centre_of row.y) l × ((l.qy ≤ᶠ f0) ≡ true)
-        × Holds (column_cover o.s o.width) row.x0 row.x1 cols.now }
-    ensures { DrewSpan row (band_ink o.s o.width o.c) px.old result px.new }
-{
-    row.draw(px, |x, p| blend_c_wide(p, o.c, side_cover(o.s, l, x, cols[x])))
-}
-
-// At most 128 columns of such a row, by distance: their coverages first, then all pixels.
-fn corner_part(px: &mut [u32], row: Span, o: Frame, l: Level) -> u32
-    requires row_fits { SpanFits row (length px.old) }
-    requires level_of { LevelOf o.s o.width (centre_of row.y) l }
-    requires x1_bound { row.x1 ≤ row.x0 + 128 }
-    ensures { DrewSpan row (band_ink o.s o.width o.c) px.old result px.new }
-{
-    let covers: [u32; 128] = filled(0, row.x1 - row.x0, |k| level_cover(o.s, o.width, l, centre((row.x0 + k) as u16)));
-    row.draw(px, |x, p| blend_c_wide(p, o.c, covers[x - row.x0]))
-}
-
-// A part of such a row.
-fn corner_span(px: &mut [u32], row: Span, o: Frame, l: Level) -> u32
-    requires row_fits { SpanFits row (length px.old) }
-    requires level_of { LevelOf o.s o.width (centre_of row.y) l }
-    ensures { DrewSpan row (band_ink o.s o.width o.c) px.old result px.new }
-{
-    let mut n = 0;
-    for x in (row.x0..row.x1).step_by(128) {
-        let part = Span {
-            x0: x,
-            x1: (x + 128).min(row.x1),
-            ..row
-        };
-        n += corner_part(px, part, o, l);
+impl Level {
+    // The coverage of a point qx past one side and as far past the other as its row is: a root only near the band.
+    fn corner_cover(self, qx: f32) -> u32
+        ensures { result ≡ band_cover (sqrt_of (qx *ᶠ qx +ᶠ self.qy *ᶠ self.qy) -ᶠ self.o.s.r) self.o.width }
+    {
+        let d = qx * qx + self.qy * self.qy;
+        if self.o.far <= d {
+            return 0;
+        }
+        if d <= self.o.near {
+            return 0;
+        }
+        band_cover(mathf::sqrt(d) - self.o.s.r, self.o.width)
     }
-    n
-}
 
-// A part of a row: what its columns share comes with it.
-fn band_span(px: &mut [u32], cols: &[u32; 2048], row: Span, o: Frame, l: Level) -> u32
-    requires row_fits { SpanFits row (length px.old) }
-    requires level_of { LevelOf o.s o.width (centre_of row.y) l × Holds (column_cover o.s o.width) row.x0 row.x1 cols.now }
-    ensures { DrewSpan row (band_ink o.s o.width o.c) px.old result px.new }
-{
-    if l.qy <= 0.0 {
-        side_span(px, cols, row, o, l)
-    } else {
-        corner_span(px, row, o, l)
+    // The coverage of a point of the row.
+    fn cover(self, xc: f32) -> u32
+        ensures { result ≡ band_cover (rounded_sd self.o.s xc self.yc) self.o.width }
+    {
+        let qx = past_sides(self.o.s, xc);
+        if both_positive(qx, self.qy) {
+            return self.corner_cover(qx);
+        }
+        if qx > self.qy {
+            return band_cover(qx - self.o.s.r, self.o.width);
+        }
+        self.level
+    }
+
+    // The coverage of column x of a row that is past no side, from that of its column.
+    fn side_cover(self, x: usize, col: u32) -> u32
+        requires { x < 2048 }
+        ensures { (self.qy ≤ᶠ f0) ≡ true → col ≡ column_cover self.o.s self.o.width x → result
+            ≡ band_cover (rounded_sd self.o.s (centre_of x) self.yc) self.o.width }
+    {
+        let qx = past_sides(self.o.s, centre(x as u16));
+        if qx > self.qy { col } else { self.level }
+    }
+
+    // A part of such a row.
+    fn side_span(self, px: &mut [u32], cols: &[u32; 2048], row: Span) -> u32
+        requires row_fits { SpanFits row (length px.old) }
+        requires at { self.yc ≡ centre_of row.y }
+        requires low { (self.qy ≤ᶠ f0) ≡ true }
+        requires holds { Holds (column_cover self.o.s self.o.width) row.x0 row.x1 cols.now }
+        ensures { DrewSpan row (band_ink self.o.s self.o.width self.o.c) px.old result px.new }
+    {
+        row.draw(
+            px,
+            |x, p| blend_c_wide(p, self.o.c, self.side_cover(x, cols[x])),
+        )
+    }
+
+    // At most 128 columns of any other row, by distance: their coverages first, then all pixels, several of which are blended
+    // at once.
+    fn corner_part(self, px: &mut [u32], row: Span) -> u32
+        requires row_fits { SpanFits row (length px.old) }
+        requires at { self.yc ≡ centre_of row.y }
+        requires x1_bound { row.x1 ≤ row.x0 + 128 }
+        ensures { DrewSpan row (band_ink self.o.s self.o.width self.o.c) px.old result px.new }
+    {
+        let covers: [u32; 128] = filled(
+            0,
+            row.x1 - row.x0,
+            |k| self.cover(centre((row.x0 + k) as u16)),
+        );
+        row.draw(px, |x, p| blend_c_wide(p, self.o.c, covers[x - row.x0]))
+    }
+
+    // A part of such a row.
+    fn corner_span(self, px: &mut [u32], row: Span) -> u32
+        requires row_fits { SpanFits row (length px.old) }
+        requires at { self.yc ≡ centre_of row.y }
+        ensures { DrewSpan row (band_ink self.o.s self.o.width self.o.c) px.old result px.new }
+    {
+        let mut n = 0;
+        for x in (row.x0..row.x1).step_by(128) {
+            let part = Span {
+                x0: x,
+                x1: (x + 128).min(row.x1),
+                ..row
+            };
+            n += self.corner_part(px, part);
+        }
+        n
+    }
+
+    // A part of a row.
+    fn band_span(self, px: &mut [u32], cols: &[u32; 2048], row: Span) -> u32
+        requires row_fits { SpanFits row (length px.old) }
+        requires at { self.yc ≡ centre_of row.y }
+        requires holds { Holds (column_cover self.o.s self.o.width) row.x0 row.x1 cols.now }
+        ensures { DrewSpan row (band_ink self.o.s self.o.width self.o.c) px.old result px.new }
+    {
+        if self.qy <= 0.0 {
+            self.side_span(px, cols, row)
+        } else {
+            self.corner_span(px, row)
+        }
+    }
+
+    // A row where it is full: beside no corner it has one coverage.
+    fn full_span(self, px: &mut [u32], row: Span) -> u32
+        requires row_fits { SpanFits row (length px.old) }
+        requires at { self.yc ≡ centre_of row.y }
+        requires part { LevelPart self.o.s row.x0 row.x1 self.o.level }
+        ensures { DrewSpan row (band_ink self.o.s self.o.width self.o.c) px.old result px.new }
+    {
+        if self.qy >= 0.0 {
+            let Columns { from, upto } = self.o.level;
+            let middle = Span {
+                x0: from,
+                x1: upto,
+                ..row
+            };
+            let left = self.corner_span(px, Span { x1: from, ..row });
+            let between = middle.draw(px, |_, p| blend_c(p, self.o.c, self.level));
+            let right = self.corner_span(px, Span { x0: upto, ..row });
+            left + between + right
+        } else {
+            self.corner_span(px, row)
+        }
+    }
+
+    // The two sides of a row, with a gap between them.
+    fn side_spans(self, px: &mut [u32], cols: &[u32; 2048], row: Span, g: Columns) -> u32
+        requires row_fits { SpanFits row (length px.old) }
+        requires at { self.yc ≡ centre_of row.y }
+        requires gap { RowGap self.o.s self.o.width (centre_of row.y) g }
+        requires not_full { full_row self.o.s (self.o.width +ᶠ f1) (centre_of row.y) ≡ false }
+        requires holds { Holds (column_cover self.o.s self.o.width) row.x0 row.x1 cols.now }
+        ensures { DrewSpan row (outline_ink self.o.s self.o.width self.o.c) px.old result px.new }
+    {
+        let a = g.from.min(row.x1).max(row.x0);
+        let b = g.upto.min(row.x1).max(a);
+        let left = self.band_span(px, cols, Span { x1: a, ..row });
+        let right = self.band_span(px, cols, Span { x0: b, ..row });
+        left + right
     }
 }
 
-// A row where it is full: beside no corner it has one coverage.
-fn full_span(px: &mut [u32], row: Span, o: Frame, l: Level) -> u32
-    requires row_fits { SpanFits row (length px.old) }
-    requires level_of { LevelOf o.s o.width (centre_of row.y) l × LevelPart o.s row.x0 row.x1 o.level }
-    ensures { DrewSpan row (band_ink o.s o.width o.c) px.old result px.new }
-{
-    if l.qy >= 0.0 {
-        let Columns { from, upto } = o.level;
-        let middle = Span {
-            x0: from,
-            x1: upto,
-            ..row
-        };
-        let left = corner_span(px, Span { x1: from, ..row }, o, l);
-        let between = middle.draw(px, |_, p| blend_c(p, o.c, l.level));
-        let right = corner_span(px, Span { x0: upto, ..row }, o, l);
-        left + between + right
-    } else {
-        corner_span(px, row, o, l)
+impl Frame {
+    // What the columns of a row share.
+    fn level_at(self, yc: f32) -> Level
+        ensures { (result.o ≡ self) × (result.yc ≡ yc) }
+    {
+        let qy = mathf::fabs(yc - self.s.cy) - (self.s.hh - self.s.r);
+        let level = band_cover(qy - self.s.r, self.width);
+        Level {
+            o: self,
+            yc,
+            qy,
+            level,
+        }
     }
-}
 
-// The two sides of a row, with a gap between them.
-fn side_spans(px: &mut [u32], cols: &[u32; 2048], row: Span, o: Frame, l: Level, g: Columns) -> u32
-    requires row_fits { SpanFits row (length px.old) }
-    requires level_of { LevelOf o.s o.width (centre_of row.y) l × RowGap o.s o.width (centre_of row.y) g
-        × (full_row o.s (o.width +ᶠ f1) (centre_of row.y) ≡ false) }
-    requires holds { Holds (column_cover o.s o.width) row.x0 row.x1 cols.now }
-    ensures { DrewSpan row (outline_ink o.s o.width o.c) px.old result px.new }
-{
-    let a = g.from.min(row.x1).max(row.x0);
-    let b = g.upto.min(row.x1).max(a);
-    let left = band_span(px, cols, Span { x1: a, ..row }, o, l);
-    let right = band_span(px, cols, Span { x0: b, ..row }, o, l);
-    left + right
-}
-
-// The gap of a row.
-fn row_gap(o: Frame, yc: f32) -> Columns
-    requires { Ready o }
-    ensures { RowGap o.s o.width yc result }
-{
-    if corner_row(o.s, yc) {
-        o.bent
-    } else {
-        o.straight
+    // The gap of a row.
+    fn gap_at(self, yc: f32) -> Columns
+        ensures { RowGap self.s self.width yc result }
+    {
+        if corner_row(self.s, yc) {
+            self.bent
+        } else {
+            self.straight
+        }
     }
-}
 
-// A row: whole, or its two sides.
-fn outline_row(px: &mut [u32], cols: &[u32; 2048], row: Span, o: Frame) -> u32
-    requires row_fits { SpanFits row (length px.old) }
-    requires ready { Ready o × LevelPart o.s row.x0 row.x1 o.level × Holds (column_cover o.s o.width) row.x0 row.x1 cols.now }
-    ensures { DrewSpan row (outline_ink o.s o.width o.c) px.old result px.new }
-{
-    let yc = centre(row.y as u16);
-    let l = level_of(o, yc);
-    if full_row(o.s, o.width + 1.0, yc) {
-        full_span(px, row, o, l)
-    } else {
-        side_spans(px, cols, row, o, l, row_gap(o, yc))
+    // A row: whole, or its two sides.
+    fn draw_row(self, px: &mut [u32], cols: &[u32; 2048], row: Span) -> u32
+        requires row_fits { SpanFits row (length px.old) }
+        requires part { LevelPart self.s row.x0 row.x1 self.level }
+        requires holds { Holds (column_cover self.s self.width) row.x0 row.x1 cols.now }
+        ensures { DrewSpan row (outline_ink self.s self.width self.c) px.old result px.new }
+    {
+        let yc = centre(row.y as u16);
+        let l = self.level_at(yc);
+        if full_row(self.s, self.width + 1.0, yc) {
+            l.full_span(px, row)
+        } else {
+            l.side_spans(px, cols, row, self.gap_at(yc))
+        }
     }
 }
 
@@ -376,7 +400,7 @@ fn outline_all(px: &mut [u32], pitch: usize, b: Area, s: Rounded, width: f32, c:
         near: blank_upto(s.r, width),
     };
     let cols = filled(b.x0, b.x1, |x| column_cover(s, width, x));
-    b.draw(px, pitch, |px, row| outline_row(px, &cols, row, o))
+    b.draw(px, pitch, |px, row| o.draw_row(px, &cols, row))
 }
 
 // The same, where the area has rows.

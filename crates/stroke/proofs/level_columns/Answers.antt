@@ -16,6 +16,6 @@ pub returns : goal.returns
 returns c = λ e.
     let s = c.args.s in
     let found = cases_from_all _ _ _ (λ x. (fabs_of (centre_of x -ᶠ s.cx) -ᶠ (s.hw -ᶠ s.r) ≤ᶠ f0) ≡ true) (λ x. ⊤) c.all.ensures.ran
-        (YieldsList-from_range c.args.a c.args.b (c.args.b - c.args.a) refl refl)
-        (λ x q k. search (rules, tests)) (λ x q k. tt) in
+    (YieldsList-from_range c.args.a c.args.b (c.args.b - c.args.a) refl refl)
+    (λ x q k. search (rules, tests)) (λ x q k. tt) in
     level_all s c.args.a c.args.b (MatchBool-at_true _ _ (is_true c.all.result e) found)
