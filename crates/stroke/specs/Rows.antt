@@ -1,5 +1,5 @@
 -- What the rows of an outline share, and the columns of a row. No call of the library cites this file: the loops of a row do.
-use Rattle.std.specs.Prelude.{◌≡◌, Bool, true, false, cond, List, ℕ, ◌+◌, ◌-◌, ◌<◌, ◌≤◌, get_or, T, Float}
+use Rattle.std.specs.Prelude.{◌≡◌, Bool, true, cond, ℕ, ◌+◌, ◌<◌, ◌≤◌, T, Float}
 use Rattle.std.specs.Float.{binary32}
 use Rattle.std.specs.Float.Ieee.{fits}
 use Rattle.mathf.specs.F32.{◌+ᶠ◌, ◌-ᶠ◌, ◌≤ᶠ◌, f0, f1}
@@ -8,8 +8,6 @@ use Rattle.mathf.specs.Order.{fabs_of}
 use Rattle.mathf.specs.Whole.{floor_of, ceil_of}
 use Rattle.mathf.specs.Convert.{to_i32}
 use Rattle.geom.specs.Int.{up}
-use Rattle.color.specs.declared.Color.{Color}
-use Rattle.color.specs.Inks.{over_c}
 use Rattle.paints.specs.Paints.{centre_of, rounded_sd}
 use Rattle.paints.specs.declared.Rounded.{Rounded}
 use Rattle.stroke.specs.declared.Columns.{Columns}

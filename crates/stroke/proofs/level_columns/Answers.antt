@@ -6,7 +6,6 @@ use Rattle.std.proofs.lemmas.Bool.{MatchBool-at_true}
 use Rattle.std.proofs.lemmas.Iterator.{cases_from_all, YieldsList-from_range}
 use Rattle.mathf.specs.F32.{◌-ᶠ◌, ◌≤ᶠ◌, f0}
 use Rattle.mathf.specs.Order.{fabs_of}
-use Rattle.mathf.proofs.Saturating.{passed}
 use Rattle.paints.specs.Paints.{centre_of}
 use Rattle.stroke.proofs.Levels.{level_all}
 use Rattle.stroke.proofs.level_columns.Goals as goal

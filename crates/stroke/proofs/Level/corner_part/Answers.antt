@@ -2,7 +2,6 @@
 use native.Mathlib.Omega.{arith}
 use Rattle.std.proofs.Common.{rules, ◌≡◌, ◌+◌, ◌-◌}
 use Rattle.draw.specs.Held.{Holds}
-use Rattle.paints.specs.Paints.{centre_of}
 use Rattle.stroke.specs.Stroke.{band_ink}
 use Rattle.stroke.specs.Rows.{band_at}
 use Rattle.stroke.proofs.Level.corner_part.Goals as goal

@@ -1,5 +1,5 @@
 -- `Level::corner_span` meets its contract. The columns before x are drawn, as far as the span goes. Assumes nothing.
-use Rattle.std.proofs.Common.{◌≤◌, ◌-◌, min}
+use Rattle.std.proofs.Common.{◌-◌, min}
 use Rattle.draw.proofs.Loops.{InRow}
 use Rattle.stroke.specs.Stroke.{band_ink}
 use Rattle.stroke.proofs.Level.corner_span.Given as goal
