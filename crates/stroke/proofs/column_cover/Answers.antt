@@ -3,9 +3,6 @@ use native.Mathlib.Omega.{arith}
 use Rattle.stroke.specs.Rows.{column_cover}
 use Rattle.stroke.proofs.column_cover.Goals as goal
 
-pub overflow_cast-x : goal.overflow_cast-x
-overflow_cast-x c = omega arith
-
 pub returns : goal.returns
 unfolding column_cover
 returns c = rw (c.past_sides-qx.ensures, c.centre.ensures) at c.band_cover.ensures

@@ -10,6 +10,3 @@ loop-x-init g c = λ h a. held_start (length-replicate g.row.N 0) c.requires.pla
 pub loop-x-preserved : goal.loop-x-preserved
 loop-x-preserved g c = λ h a.
     held_next c.requires.places.1 (c.loop-x.invariant h a) c.loop-x-test.true (a _ _ (omega arith) c.loop-x-test.true c.f.ensures)
-
-pub returns : goal.returns
-returns g c = λ h a. held_end (c.loop-x.invariant h a) c.loop-x-test.false

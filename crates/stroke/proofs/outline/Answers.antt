@@ -15,9 +15,6 @@ pub outline_area-steps-requires : goal.outline_area-steps-requires
 outline_area-steps-requires c =
     rw c.clipped-b.ensures (canvas_fits _ _ _ (shape_open _ _ _ (sym c.shape_number-number.ensures ∙ c.if-number-ne0.false)))
 
-pub overflow_cast-steps : goal.overflow_cast-steps
-overflow_cast-steps c = omega (arith, c.outline_area-steps.ensures.few)
-
 pub returns : goal.returns
 returns c =
     let e = rw (c.clipped-b.ensures, c.stroke_reach.ensures, c.of.ensures) at c.outline_area-steps.ensures in
