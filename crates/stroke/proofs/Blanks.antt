@@ -7,11 +7,11 @@ use mathlib.Core.Logic.{◌⊎◌, inl, inr}
 use mathlib.Core.Bool.{true, false, ◌&&◌}
 use lib.Dec.{T}
 use lib.IntN.{pos, negsuc}
-use lib.Ieee.{Float, nan, inf, fin, binary32, of_bits, round, add, sub, mul, div, neg, lt, eq, le, fits, to_unsigned}
+use lib.Ieee.{Float, nan, inf, fin, binary32, of_bits, round, add, sub, mul, neg, lt, eq, le, fits, to_unsigned}
 use lib.Ieee.Bits.{is_true}
 use lib.Ieee.Fits.{add-fits}
 use lib.Ieee.Scale.{finite}
-use Rattle.mathf.specs.F32.{◌+ᶠ◌, ◌-ᶠ◌, ◌*ᶠ◌, ◌/ᶠ◌, ◌≤ᶠ◌, f0, f½}
+use Rattle.mathf.specs.F32.{◌+ᶠ◌, ◌-ᶠ◌, ◌*ᶠ◌, ◌≤ᶠ◌, f½}
 use Rattle.mathf.specs.Order.{clamp_of}
 use Rattle.mathf.specs.Convert.{to_u32}
 use Rattle.mathf.specs.Root.{sqrt_of}
@@ -155,8 +155,8 @@ upto_test lo hi k r width p q f t =
     (and_right ((lo ≤ᶠ m) && (m ≤ᶠ hi)) (m +ᶠ width ≤ᶠ neg f½) t)
 
 -- where a test fails there is a NaN, beyond which nothing lies
-no_number : f0 /ᶠ f0 ≡ nan
-unfolding div of_bits
+no_number : of_bits binary32 0x7FC0_0000 ≡ nan
+unfolding of_bits
 no_number = refl
 
 nan_low : (k : Float) → T (le nan k) → ⊥
@@ -169,10 +169,10 @@ nan_high nan h = h
 nan_high (inf s) h = h
 nan_high (fin s m e) h = h
 
-pub from_none : (r width : Float) → BlankFrom r width (f0 /ᶠ f0)
+pub from_none : (r width : Float) → BlankFrom r width (of_bits binary32 0x7FC0_0000)
 from_none r width = λ d g h. absurd (nan_low d (subst (λ (z : Float). T (le z d)) no_number (passed h)))
 
-pub upto_none : (r width : Float) → BlankUpto r width (f0 /ᶠ f0)
+pub upto_none : (r width : Float) → BlankUpto r width (of_bits binary32 0x7FC0_0000)
 upto_none r width = λ d g z h. absurd (nan_high d (subst (λ (y : Float). T (le d y)) no_number (passed h)))
 
 -- the coverage of a point by the sum of the squares of its distances across and down

@@ -23,6 +23,7 @@ use gfx::{Canvas, Counted};
 use paints::{Rounded, both_positive, centre};
 
 // The reach: nothing where the rectangle has no width or no height, or the colour no alpha.
+#[tactic(auto, unfolding(crate::specs::Stroke::stroke_reach, geom::specs::Box::no_box))]
 pub fn stroke_reach(rect: Rect, c: Color) -> IRect
     ensures { result ≡ stroke_reach rect c }
 {
@@ -37,6 +38,7 @@ pub fn stroke_reach(rect: Rect, c: Color) -> IRect
 }
 
 // The coverage of a band of the width inside the edge, at a signed distance from it.
+#[tactic(auto, unfolding(crate::specs::Stroke::band_cover))]
 fn band_cover(d: f32, width: f32) -> u32
     ensures { result ≡ band_cover d width }
 {
@@ -112,6 +114,7 @@ fn level_columns(s: Rounded, a: usize, b: usize) -> bool
 }
 
 // Such columns between x0 and x1; none where they were not found.
+#[tactic(auto, using(crate::proofs::Levels::level_none))]
 fn level_part(s: Rounded, x0: usize, x1: usize) -> Columns
     requires { (x0 ≤ x1) × (x1 ≤ 2048) }
     ensures { LevelPart s x0 x1 result }
@@ -157,7 +160,7 @@ fn blank_from(r: f32) -> f32
     if mathf::sqrt(k) - r >= 0.5 {
         k
     } else {
-        0.0 / 0.0
+        f32::NAN
     }
 }
 
@@ -172,7 +175,7 @@ fn blank_upto(r: f32, width: f32) -> f32
     if small & (m + width <= -0.5) {
         k
     } else {
-        0.0 / 0.0
+        f32::NAN
     }
 }
 
@@ -189,6 +192,7 @@ struct Level {
 }
 
 // The coverage of column x by its own distance.
+#[tactic(auto, unfolding(crate::specs::Rows::column_cover))]
 fn column_cover(s: Rounded, width: f32, x: usize) -> u32
     requires { x < 2048 }
     ensures { result ≡ column_cover s width x }
@@ -213,6 +217,7 @@ impl Level {
     }
 
     // The coverage of a point of the row.
+    #[tactic(auto, unfolding(paints::specs::Paints::corner_sd, paints::specs::Paints::rrect_sd))]
     fn cover(self, xc: f32) -> u32
         ensures { result ≡ band_cover (rounded_sd self.o.s xc self.yc) self.o.width }
     {
@@ -354,6 +359,7 @@ impl Frame {
     }
 
     // The gap of a row.
+    #[tactic(auto, unfolding(crate::specs::Stroke::side_width, crate::specs::Stroke::gap_from, crate::specs::Stroke::gap_upto))]
     fn gap_at(self, yc: f32) -> Columns
         ensures { RowGap self.s self.width yc result }
     {

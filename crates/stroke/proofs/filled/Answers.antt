@@ -1,7 +1,7 @@
 -- `stroke::filled` meets its contract. The places before x are filled. Assumes nothing.
 use native.Mathlib.Omega.{arith}
 use Rattle.std.proofs.lemmas.List.{length-replicate}
-use Rattle.draw.proofs.Held.{held_start, held_next, held_end}
+use Rattle.draw.proofs.Held.{held_start, held_next}
 use Rattle.stroke.proofs.filled.Goals as goal
 
 pub loop-x-init : goal.loop-x-init

@@ -1,6 +1,5 @@
 -- `stroke::outline` meets its contract. Assumes nothing.
 use mathlib.Core.Path.{◌∙◌, sym}
-use native.Mathlib.Omega.{arith}
 use Rattle.draw.proofs.Clips.{drawn_clip}
 use Rattle.draw.proofs.Loops.{drew_as}
 use Rattle.gfx.proofs.Answers.{refused_shape, accepted_shape}
