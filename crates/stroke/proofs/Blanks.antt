@@ -7,11 +7,11 @@ use mathlib.Core.Logic.{◌⊎◌, inl, inr}
 use mathlib.Core.Bool.{true, false, ◌&&◌}
 use lib.Dec.{T}
 use lib.IntN.{pos, negsuc}
-use lib.Ieee.{Float, nan, inf, fin, binary32, of_bits, round, add, sub, mul, div, neg, lt, eq, le, fits, to_unsigned}
+use lib.Ieee.{Float, nan, inf, fin, binary32, of_bits, round, add, sub, mul, neg, lt, eq, le, fits, to_unsigned}
 use lib.Ieee.Bits.{is_true}
 use lib.Ieee.Fits.{add-fits}
 use lib.Ieee.Scale.{finite}
-use Rattle.mathf.specs.F32.{◌+ᶠ◌, ◌-ᶠ◌, ◌*ᶠ◌, ◌/ᶠ◌, ◌≤ᶠ◌, f0, f½}
+use Rattle.mathf.specs.F32.{◌+ᶠ◌, ◌-ᶠ◌, ◌*ᶠ◌, ◌≤ᶠ◌, f½}
 use Rattle.mathf.specs.Order.{clamp_of}
 use Rattle.mathf.specs.Convert.{to_u32}
 use Rattle.mathf.specs.Root.{sqrt_of}
@@ -125,7 +125,7 @@ blank_in d width h = go (share_range (sub binary32 z½ d))
 
 -- ---- as the code tests a number
 pub from_at : (k r width : Float) → T (fits binary32 k) → (f½ ≤ᶠ sqrt_of k -ᶠ r) ≡ true → BlankFrom r width k
-unfolding BlankFrom of_bits
+unfolding of_bits
 from_at k r width f t = λ d g h. blank_out (sub binary32 (sqrt_of d) r) width (sub_above (sqrt_of k) (sqrt_of d) r (sqrt_mono k d f g (real k r (passed t)) (passed h)) (passed t))
 
 sub_upto : (m x y r : Float) → T (finite m) → T (le x y) → T (le (sub binary32 y r) m) → T (le (sub binary32 x r) m)
@@ -138,7 +138,7 @@ add_upto : (x m width : Float) → T (le x m) → T (le (add binary32 m width) -
 add_upto x m width h k = sum_below true 1 (negsuc 0) x m width h k
 
 pub upto_at : (k r width : Float) → T (fits binary32 k) → T (finite (sqrt_of k -ᶠ r)) → (sqrt_of k -ᶠ r +ᶠ width ≤ᶠ neg f½) ≡ true → BlankUpto r width k
-unfolding BlankUpto of_bits neg
+unfolding of_bits neg
 upto_at k r width f m t = λ d g z h.
     blank_in (sub binary32 (sqrt_of d) r) width
     (add_upto (sub binary32 (sqrt_of d) r) (sub binary32 (sqrt_of k) r) width
@@ -155,8 +155,8 @@ upto_test lo hi k r width p q f t =
     (and_right ((lo ≤ᶠ m) && (m ≤ᶠ hi)) (m +ᶠ width ≤ᶠ neg f½) t)
 
 -- where a test fails there is a NaN, beyond which nothing lies
-no_number : f0 /ᶠ f0 ≡ nan
-unfolding div of_bits
+no_number : of_bits binary32 0x7FC0_0000 ≡ nan
+unfolding of_bits
 no_number = refl
 
 nan_low : (k : Float) → T (le nan k) → ⊥
@@ -169,19 +169,16 @@ nan_high nan h = h
 nan_high (inf s) h = h
 nan_high (fin s m e) h = h
 
-pub from_none : (r width : Float) → BlankFrom r width (f0 /ᶠ f0)
-unfolding BlankFrom
+pub from_none : (r width : Float) → BlankFrom r width (of_bits binary32 0x7FC0_0000)
 from_none r width = λ d g h. absurd (nan_low d (subst (λ (z : Float). T (le z d)) no_number (passed h)))
 
-pub upto_none : (r width : Float) → BlankUpto r width (f0 /ᶠ f0)
-unfolding BlankUpto
+pub upto_none : (r width : Float) → BlankUpto r width (of_bits binary32 0x7FC0_0000)
 upto_none r width = λ d g z h. absurd (nan_high d (subst (λ (y : Float). T (le d y)) no_number (passed h)))
 
 -- the coverage of a point by the sum of the squares of its distances across and down
 pub far_blank : (r width k x y : Float) → BlankFrom r width k → (k ≤ᶠ x *ᶠ x +ᶠ y *ᶠ y) ≡ true → 0 ≡ band_cover (sqrt_of (x *ᶠ x +ᶠ y *ᶠ y) -ᶠ r) width
-unfolding BlankFrom
 far_blank r width k x y b h = sym (b (x *ᶠ x +ᶠ y *ᶠ y) (add-fits binary32 _ _) h)
 
 pub near_blank : (r width k x y : Float) → BlankUpto r width k → (x *ᶠ x +ᶠ y *ᶠ y ≤ᶠ k) ≡ true → 0 ≡ band_cover (sqrt_of (x *ᶠ x +ᶠ y *ᶠ y) -ᶠ r) width
-unfolding BlankUpto of_bits
+unfolding of_bits
 near_blank r width k x y b h = let d = x *ᶠ x +ᶠ y *ᶠ y in sym (b d (add-fits binary32 _ _) (is_true (le z0 d) (squares x y k (passed h))) h)

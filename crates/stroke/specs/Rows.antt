@@ -1,5 +1,5 @@
 -- What the rows of an outline share, and the columns of a row. No call of the library cites this file: the loops of a row do.
-use Rattle.std.specs.Prelude.{◌≡◌, Bool, true, false, cond, List, ℕ, ◌+◌, ◌-◌, ◌<◌, ◌≤◌, get_or, T, Float}
+use Rattle.std.specs.Prelude.{◌≡◌, Bool, true, cond, ℕ, ◌+◌, ◌<◌, ◌≤◌, T, Float}
 use Rattle.std.specs.Float.{binary32}
 use Rattle.std.specs.Float.Ieee.{fits}
 use Rattle.mathf.specs.F32.{◌+ᶠ◌, ◌-ᶠ◌, ◌≤ᶠ◌, f0, f1}
@@ -8,29 +8,17 @@ use Rattle.mathf.specs.Order.{fabs_of}
 use Rattle.mathf.specs.Whole.{floor_of, ceil_of}
 use Rattle.mathf.specs.Convert.{to_i32}
 use Rattle.geom.specs.Int.{up}
-use Rattle.color.specs.declared.Color.{Color}
-use Rattle.color.specs.Inks.{over_c}
 use Rattle.paints.specs.Paints.{centre_of, rounded_sd}
 use Rattle.paints.specs.declared.Rounded.{Rounded}
-use Rattle.stroke.specs.declared.Level.{Level}
 use Rattle.stroke.specs.declared.Columns.{Columns}
-use Rattle.stroke.specs.declared.Frame.{Frame}
 use Rattle.stroke.specs.Stroke.{band_cover, gap_from, gap_upto}
 
 -- squared distances of the centre of a corner with the radius r: from k on, or up to k, the band covers nothing
-unfoldable pub BlankFrom : Float → Float → Float → Type 0
+abbrev pub BlankFrom : Float → Float → Float → Type 0
 BlankFrom r width k = (d : Float) → T (fits binary32 d) → (k ≤ᶠ d) ≡ true → band_cover (sqrt_of d -ᶠ r) width ≡ 0
 
-unfoldable pub BlankUpto : Float → Float → Float → Type 0
+abbrev pub BlankUpto : Float → Float → Float → Type 0
 BlankUpto r width k = (d : Float) → T (fits binary32 d) → (f0 ≤ᶠ d) ≡ true → (d ≤ᶠ k) ≡ true → band_cover (sqrt_of d -ᶠ r) width ≡ 0
-
--- of the row with the centre yc: how far it is past the sides, the coverage where no corner or side is nearer, and two such
--- distances
-pub record LevelOf (s : Rounded) (width yc : Float) (l : Level) : Type 0 where
-  pub past : l.qy ≡ fabs_of (yc -ᶠ s.cy) -ᶠ (s.hh -ᶠ s.r)
-  pub covered : l.level ≡ band_cover (l.qy -ᶠ s.r) width
-  pub outside : BlankFrom s.r width l.far
-  pub inside : BlankUpto s.r width l.near
 
 -- the gap of a row that passes a rounded corner, or of any other, and that of the row with the centre yc
 abbrev pub width_of : Bool → Rounded → Float → Float
@@ -55,17 +43,6 @@ pub record LevelPart (s : Rounded) (x0 x1 : ℕ) (g : Columns) : Type 0 where
   pub before : g.upto ≤ x1
   pub level : LevelIn s g.from g.upto
 
--- an outline has the gaps of its rows, and two such distances
-pub record Ready (o : Frame) : Type 0 where
-  pub outside : BlankFrom o.s.r o.width o.far
-  pub inside : BlankUpto o.s.r o.width o.near
-  pub bent : GapOf o.s o.width true o.bent
-  pub straight : GapOf o.s o.width false o.straight
-
--- one coverage for a whole part
-unfoldable pub level_ink : Color → ℕ → ℕ → ℕ → ℕ → ℕ
-level_ink c cv x y p = over_c p c cv
-
 -- the coverage of a column by its own distance
 unfoldable pub column_cover : Rounded → Float → ℕ → ℕ
 column_cover s width x = band_cover (fabs_of (centre_of x -ᶠ s.cx) -ᶠ (s.hw -ᶠ s.r) -ᶠ s.r) width
@@ -73,7 +50,3 @@ column_cover s width x = band_cover (fabs_of (centre_of x -ᶠ s.cx) -ᶠ (s.hw 
 -- that of the column k past x0, in the row with the centre yc
 unfoldable pub band_at : Rounded → Float → Float → ℕ → ℕ → ℕ
 band_at s width yc x0 k = band_cover (rounded_sd s (centre_of (x0 + k)) yc) width
-
--- each column by its coverage, of which x0 has the first
-unfoldable pub each_ink : Color → ℕ → List ℕ → ℕ → ℕ → ℕ → ℕ
-each_ink c x0 covers x y p = over_c p c (get_or covers (x - x0) 0)

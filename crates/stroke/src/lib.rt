@@ -1,27 +1,29 @@
 // The outline of a rounded rectangle, and of a circle. What draws returns how many pixels' values it altered.
 #![tactic(auto)]
 
-ghost use Rattle.std.specs.Prelude.{◌≡◌, true, false, ◌+◌, ◌<◌, ◌≤◌, T, Float, length};
+ghost use Rattle.std.specs.Prelude.{◌≡◌, true, false, ℕ, ◌+◌, ◌<◌, ◌≤◌, T, Float, length};
 ghost use Rattle.mathf.specs.F32.{◌+ᶠ◌, ◌-ᶠ◌, ◌*ᶠ◌, ◌≤ᶠ◌, f0, f1};
+ghost use Rattle.mathf.specs.Order.{fabs_of};
 ghost use Rattle.mathf.specs.Root.{sqrt_of};
 ghost use Rattle.geom.specs.Int.{up};
 ghost use Rattle.draw.specs.Draw.{drawn};
 ghost use Rattle.draw.specs.Held.{Holds};
-ghost use Rattle.draw.specs.Areas.{RowFits, AreaFits, DrewRow, DrewIn};
+ghost use Rattle.draw.specs.Areas.{SpanFits, DrewSpan, AreaFits, DrewIn};
 ghost use Rattle.gfx.specs.Calls.{ShapeCalled, shape_number};
 ghost use Rattle.paints.specs.Paints.{circle_rect, rounded_sd, centre_of};
 ghost use Rattle.stroke.specs.Stroke.{stroke_ok, stroke_reach, band_cover, full_row, corner_row, band_ink, outline_ink, stroke_ink};
 ghost use Rattle.stroke.specs.Stroke.{ring_ok};
-ghost use Rattle.stroke.specs.Rows.{LevelOf, BlankFrom, BlankUpto, width_of, GapOf, RowGap, LevelIn, LevelPart, Ready};
-ghost use Rattle.stroke.specs.Rows.{level_ink, column_cover, band_at, each_ink};
+ghost use Rattle.stroke.specs.Rows.{BlankFrom, BlankUpto, width_of, GapOf, RowGap, LevelIn, LevelPart};
+ghost use Rattle.stroke.specs.Rows.{column_cover, band_at};
 
 use color::{Color, blend_c, blend_c_wide};
-use draw::{Area, between, clipped};
+use draw::{Area, Span, clipped};
 use geom::{IRect, Rect, floats_ok, nat_of};
 use gfx::{Canvas, Counted};
 use paints::{Rounded, both_positive, centre};
 
 // The reach: nothing where the rectangle has no width or no height, or the colour no alpha.
+#[tactic(auto, unfolding(crate::specs::Stroke::stroke_reach, geom::specs::Box::no_box))]
 pub fn stroke_reach(rect: Rect, c: Color) -> IRect
     ensures { result ≡ stroke_reach rect c }
 {
@@ -36,6 +38,7 @@ pub fn stroke_reach(rect: Rect, c: Color) -> IRect
 }
 
 // The coverage of a band of the width inside the edge, at a signed distance from it.
+#[tactic(auto, unfolding(crate::specs::Stroke::band_cover))]
 fn band_cover(d: f32, width: f32) -> u32
     ensures { result ≡ band_cover d width }
 {
@@ -72,6 +75,19 @@ fn side_width(s: Rounded, width: f32, corner: bool) -> f32
     if corner { s.r + 1.0 } else { width + 1.0 }
 }
 
+// Numbers of which the places from x0 up to x1 are filled by a function.
+fn filled<const N: usize, F: Fn(usize) -> u32>(x0: usize, x1: usize, f: F) -> [u32; N]
+    requires places { (x0 ≤ x1) × (x1 ≤ N) }
+    requires callable { (x : ℕ) → x0 ≤ x → x < x1 → F.pre f x }
+    ensures { (g : ℕ → ℕ) → ((x v : ℕ) → x0 ≤ x → x < x1 → F.post f x v → v ≡ g x) → Holds g x0 x1 result }
+{
+    let mut row = [0; N];
+    for x in x0..x1 {
+        row[x] = f(x);
+    }
+    row
+}
+
 // The columns between the two sides of a row that is not full: of one that passes a rounded corner, or of any other.
 fn gap(s: Rounded, width: f32, corner: bool) -> Columns
     ensures { GapOf s width corner result }
@@ -82,35 +98,34 @@ fn gap(s: Rounded, width: f32, corner: bool) -> Columns
     Columns { from, upto }
 }
 
+// How far a point is past the straight parts of the top and the bottom.
+fn past_sides(s: Rounded, xc: f32) -> f32
+    ensures { result ≡ fabs_of (xc -ᶠ s.cx) -ᶠ (s.hw -ᶠ s.r) }
+{
+    mathf::fabs(xc - s.cx) - (s.hw - s.r)
+}
+
 // Whether no column from a up to b is past the straight parts of the top and the bottom.
 fn level_columns(s: Rounded, a: usize, b: usize) -> bool
     requires { b ≤ 2048 }
     ensures { T result → LevelIn s a b }
 {
-    for x in a..b {
-        let qx = mathf::fabs(centre(x as u16) - s.cx) - (s.hw - s.r);
-        if !(qx <= 0.0) {
-            return false;
-        }
-    }
-    true
+    (a..b).all(|x| past_sides(s, centre(x as u16)) <= 0.0)
 }
 
 // Such columns between x0 and x1; none where they were not found.
+#[tactic(auto, using(crate::proofs::Levels::level_none))]
 fn level_part(s: Rounded, x0: usize, x1: usize) -> Columns
     requires { (x0 ≤ x1) × (x1 ≤ 2048) }
     ensures { LevelPart s x0 x1 result }
 {
-    let from = between(
-        nat_of(mathf::to_i32(mathf::ceil(s.cx - (s.hw - s.r)))),
-        x0,
-        x1,
-    );
-    let upto = between(
-        nat_of(mathf::to_i32(mathf::floor(s.cx + (s.hw - s.r)))),
-        from,
-        x1,
-    );
+    let half = s.hw - s.r;
+    let from = nat_of(mathf::to_i32(mathf::ceil(s.cx - half)))
+        .min(x1)
+        .max(x0);
+    let upto = nat_of(mathf::to_i32(mathf::floor(s.cx + half)))
+        .min(x1)
+        .max(from);
     if level_columns(s, from, upto) {
         return Columns { from, upto };
     }
@@ -129,6 +144,10 @@ struct Frame {
     level: Columns,
     far: f32,
     near: f32,
+    ghost outside: { BlankFrom s.r width far },
+    ghost inside: { BlankUpto s.r width near },
+    ghost bent_gap: { GapOf s width true bent },
+    ghost straight_gap: { GapOf s width false straight },
 }
 
 // A squared distance of a corner's centre just over half a pixel outside the band, from which on it covers nothing; a NaN where
@@ -141,7 +160,7 @@ fn blank_from(r: f32) -> f32
     if mathf::sqrt(k) - r >= 0.5 {
         k
     } else {
-        0.0 / 0.0
+        f32::NAN
     }
 }
 
@@ -156,351 +175,216 @@ fn blank_upto(r: f32, width: f32) -> f32
     if small & (m + width <= -0.5) {
         k
     } else {
-        0.0 / 0.0
+        f32::NAN
     }
 }
 
-// What the columns of a row share: how far it is past the sides, its coverage beside the corners, and where a corner's is known.
+// What the columns of a row share: the outline, the row's centre, how far that is past the sides, and its coverage beside the
+// corners.
 #[derive(Clone, Copy)]
 struct Level {
+    o: Frame,
+    yc: f32,
     qy: f32,
     level: u32,
-    far: f32,
-    near: f32,
-}
-
-fn level_of(o: Frame, yc: f32) -> Level
-    requires { Ready o }
-    ensures { LevelOf o.s o.width yc result }
-{
-    let qy = mathf::fabs(yc - o.s.cy) - (o.s.hh - o.s.r);
-    let level = band_cover(qy - o.s.r, o.width);
-    let far = o.far;
-    let near = o.near;
-    Level {
-        qy,
-        level,
-        far,
-        near,
-    }
-}
-
-// The coverage of a point qx past one side and as far past the other as its row is: a root only near the band.
-fn corner_cover(r: f32, width: f32, l: Level, qx: f32) -> u32
-    ensures { BlankFrom r width l.far → BlankUpto r width l.near → result
-        ≡ band_cover (sqrt_of (qx *ᶠ qx +ᶠ l.qy *ᶠ l.qy) -ᶠ r) width }
-{
-    let d = qx * qx + l.qy * l.qy;
-    if l.far <= d {
-        return 0;
-    }
-    if d <= l.near {
-        return 0;
-    }
-    band_cover(mathf::sqrt(d) - r, width)
-}
-
-// The coverage of a point of such a row.
-fn level_cover(s: Rounded, width: f32, l: Level, xc: f32) -> u32
-    ensures { (yc : Float) → LevelOf s width yc l → result ≡ band_cover (rounded_sd s xc yc) width }
-{
-    let qx = mathf::fabs(xc - s.cx) - (s.hw - s.r);
-    if both_positive(qx, l.qy) {
-        return corner_cover(s.r, width, l, qx);
-    }
-    if qx > l.qy {
-        return band_cover(qx - s.r, width);
-    }
-    l.level
+    ghost past: { qy ≡ fabs_of (yc -ᶠ o.s.cy) -ᶠ (o.s.hh -ᶠ o.s.r) },
+    ghost covered: { level ≡ band_cover (qy -ᶠ o.s.r) o.width },
 }
 
 // The coverage of column x by its own distance.
+#[tactic(auto, unfolding(crate::specs::Rows::column_cover))]
 fn column_cover(s: Rounded, width: f32, x: usize) -> u32
     requires { x < 2048 }
     ensures { result ≡ column_cover s width x }
 {
-    let qx = mathf::fabs(centre(x as u16) - s.cx) - (s.hw - s.r);
+    let qx = past_sides(s, centre(x as u16));
     band_cover(qx - s.r, width)
 }
 
-// That of the columns x0 up to x1, which the rows beside the straight sides share: filled once a call.
-fn column_covers(s: Rounded, width: f32, x0: usize, x1: usize) -> [u32; 2048]
-    requires { (x0 ≤ x1) × (x1 ≤ 2048) }
-    ensures { Holds (column_cover s width) x0 x1 result }
-{
-    let mut cols = [0u32; 2048];
-    for x in x0..x1 {
-        cols[x] = column_cover(s, width, x);
+impl Level {
+    // The coverage of a point qx past one side and as far past the other as its row is: a root only near the band.
+    fn corner_cover(self, qx: f32) -> u32
+        ensures { result ≡ band_cover (sqrt_of (qx *ᶠ qx +ᶠ self.qy *ᶠ self.qy) -ᶠ self.o.s.r) self.o.width }
+    {
+        let d = qx * qx + self.qy * self.qy;
+        if self.o.far <= d {
+            return 0;
+        }
+        if d <= self.o.near {
+            return 0;
+        }
+        band_cover(mathf::sqrt(d) - self.o.s.r, self.o.width)
     }
-    cols
-}
 
-// The coverage of column x of a row that is past no side, from that of its column.
-fn side_cover(s: Rounded, l: Level, x: usize, col: u32) -> u32
-    requires { x < 2048 }
-    ensures { (width yc : Float) → LevelOf s width yc l → (l.qy ≤ᶠ f0) ≡ true → col ≡ column_cover s width x → result
-        ≡ band_cover (rounded_sd s (centre_of x) yc) width }
-{
-    let qx = mathf::fabs(centre(x as u16) - s.cx) - (s.hw - s.r);
-    if qx > l.qy { col } else { l.level }
-}
-
-// A part of such a row y.
-fn side_span(
-    px: &mut [u32],
-    cols: &[u32; 2048],
-    pitch: usize,
-    y: usize,
-    x0: usize,
-    x1: usize,
-    o: Frame,
-    l: Level,
-) -> u32
-    requires row_fits { RowFits pitch y x0 x1 (length px.old) }
-    requires level_of { LevelOf o.s o.width (centre_of y) l × ((l.qy ≤ᶠ f0) ≡ true)
-        × Holds (column_cover o.s o.width) x0 x1 cols.now }
-    ensures { DrewRow pitch y x0 x1 (band_ink o.s o.width o.c) px.old result px.new }
-{
-    let row = y * pitch;
-    let mut n = 0;
-    for x in x0..x1 {
-        let cv = side_cover(o.s, l, x, cols[x]);
-        let i = row + x;
-        let q = blend_c_wide(px[i], o.c, cv);
-        px[i] = q.value;
-        n += q.altered as u32;
+    // The coverage of a point of the row.
+    #[tactic(auto, unfolding(paints::specs::Paints::corner_sd, paints::specs::Paints::rrect_sd))]
+    fn cover(self, xc: f32) -> u32
+        ensures { result ≡ band_cover (rounded_sd self.o.s xc self.yc) self.o.width }
+    {
+        let qx = past_sides(self.o.s, xc);
+        if both_positive(qx, self.qy) {
+            return self.corner_cover(qx);
+        }
+        if qx > self.qy {
+            return band_cover(qx - self.o.s.r, self.o.width);
+        }
+        self.level
     }
-    n
-}
 
-// The coverages of n columns from x0 on of any other row.
-fn covers(s: Rounded, width: f32, l: Level, x0: usize, n: usize) -> [u32; 128]
-    requires { (x0 + n ≤ 2048) × (n ≤ 128) }
-    ensures { (yc : Float) → LevelOf s width yc l → Holds (band_at s width yc x0) 0 n result }
-{
-    let mut covers = [0u32; 128];
-    for k in 0..n {
-        covers[k] = level_cover(s, width, l, centre((x0 + k) as u16));
+    // The coverage of column x of a row that is past no side, from that of its column.
+    fn side_cover(self, x: usize, col: u32) -> u32
+        requires { x < 2048 }
+        ensures { (self.qy ≤ᶠ f0) ≡ true → col ≡ column_cover self.o.s self.o.width x → result
+            ≡ band_cover (rounded_sd self.o.s (centre_of x) self.yc) self.o.width }
+    {
+        let qx = past_sides(self.o.s, centre(x as u16));
+        if qx > self.qy { col } else { self.level }
     }
-    covers
-}
 
-// A part of row y, each column by its coverage.
-fn each_span(
-    px: &mut [u32],
-    covers: &[u32; 128],
-    pitch: usize,
-    y: usize,
-    x0: usize,
-    x1: usize,
-    c: Color,
-) -> u32
-    requires row_fits { RowFits pitch y x0 x1 (length px.old) }
-    requires x1_bound { x1 ≤ x0 + 128 }
-    ensures { DrewRow pitch y x0 x1 (each_ink c x0 covers.now) px.old result px.new }
-{
-    let row = y * pitch;
-    let mut n = 0;
-    for x in x0..x1 {
-        let i = row + x;
-        let q = blend_c_wide(px[i], c, covers[x - x0]);
-        px[i] = q.value;
-        n += q.altered as u32;
+    // A part of such a row.
+    fn side_span(self, px: &mut [u32], cols: &[u32; 2048], row: Span) -> u32
+        requires row_fits { SpanFits row (length px.old) }
+        requires at { self.yc ≡ centre_of row.y }
+        requires low { (self.qy ≤ᶠ f0) ≡ true }
+        requires holds { Holds (column_cover self.o.s self.o.width) row.x0 row.x1 cols.now }
+        ensures { DrewSpan row (band_ink self.o.s self.o.width self.o.c) px.old result px.new }
+    {
+        row.draw(
+            px,
+            |x, p| blend_c_wide(p, self.o.c, self.side_cover(x, cols[x])),
+        )
     }
-    n
-}
 
-// At most 128 columns of such a row y, by distance: their coverages first, then all pixels.
-fn corner_part(
-    px: &mut [u32],
-    pitch: usize,
-    y: usize,
-    x0: usize,
-    x1: usize,
-    o: Frame,
-    l: Level,
-) -> u32
-    requires row_fits { RowFits pitch y x0 x1 (length px.old) }
-    requires level_of { LevelOf o.s o.width (centre_of y) l }
-    requires x1_bound { x1 ≤ x0 + 128 }
-    ensures { DrewRow pitch y x0 x1 (band_ink o.s o.width o.c) px.old result px.new }
-{
-    let covers = covers(o.s, o.width, l, x0, x1 - x0);
-    each_span(px, &covers, pitch, y, x0, x1, o.c)
-}
-
-// A part of such a row y.
-fn corner_span(
-    px: &mut [u32],
-    pitch: usize,
-    y: usize,
-    x0: usize,
-    x1: usize,
-    o: Frame,
-    l: Level,
-) -> u32
-    requires row_fits { RowFits pitch y x0 x1 (length px.old) }
-    requires level_of { LevelOf o.s o.width (centre_of y) l }
-    ensures { DrewRow pitch y x0 x1 (band_ink o.s o.width o.c) px.old result px.new }
-{
-    let mut x = x0;
-    let mut n = 0;
-    while x < x1 {
-        let next = between(x + 128, x, x1);
-        n += corner_part(px, pitch, y, x, next, o, l);
-        x = next;
+    // At most 128 columns of any other row, by distance: their coverages first, then all pixels, several of which are blended
+    // at once.
+    fn corner_part(self, px: &mut [u32], row: Span) -> u32
+        requires row_fits { SpanFits row (length px.old) }
+        requires at { self.yc ≡ centre_of row.y }
+        requires x1_bound { row.x1 ≤ row.x0 + 128 }
+        ensures { DrewSpan row (band_ink self.o.s self.o.width self.o.c) px.old result px.new }
+    {
+        let covers: [u32; 128] = filled(
+            0,
+            row.x1 - row.x0,
+            |k| self.cover(centre((row.x0 + k) as u16)),
+        );
+        row.draw(px, |x, p| blend_c_wide(p, self.o.c, covers[x - row.x0]))
     }
-    n
-}
 
-// A part of row y: what its columns share comes with it.
-fn band_span(
-    px: &mut [u32],
-    cols: &[u32; 2048],
-    pitch: usize,
-    y: usize,
-    x0: usize,
-    x1: usize,
-    o: Frame,
-    l: Level,
-) -> u32
-    requires row_fits { RowFits pitch y x0 x1 (length px.old) }
-    requires level_of { LevelOf o.s o.width (centre_of y) l × Holds (column_cover o.s o.width) x0 x1 cols.now }
-    ensures { DrewRow pitch y x0 x1 (band_ink o.s o.width o.c) px.old result px.new }
-{
-    if l.qy <= 0.0 {
-        side_span(px, cols, pitch, y, x0, x1, o, l)
-    } else {
-        corner_span(px, pitch, y, x0, x1, o, l)
+    // A part of such a row.
+    fn corner_span(self, px: &mut [u32], row: Span) -> u32
+        requires row_fits { SpanFits row (length px.old) }
+        requires at { self.yc ≡ centre_of row.y }
+        ensures { DrewSpan row (band_ink self.o.s self.o.width self.o.c) px.old result px.new }
+    {
+        let mut n = 0;
+        for x in (row.x0..row.x1).step_by(128) {
+            let part = Span {
+                x0: x,
+                x1: (x + 128).min(row.x1),
+                ..row
+            };
+            n += self.corner_part(px, part);
+        }
+        n
+    }
+
+    // A part of a row.
+    fn band_span(self, px: &mut [u32], cols: &[u32; 2048], row: Span) -> u32
+        requires row_fits { SpanFits row (length px.old) }
+        requires at { self.yc ≡ centre_of row.y }
+        requires holds { Holds (column_cover self.o.s self.o.width) row.x0 row.x1 cols.now }
+        ensures { DrewSpan row (band_ink self.o.s self.o.width self.o.c) px.old result px.new }
+    {
+        if self.qy <= 0.0 {
+            self.side_span(px, cols, row)
+        } else {
+            self.corner_span(px, row)
+        }
+    }
+
+    // A row where it is full: beside no corner it has one coverage.
+    fn full_span(self, px: &mut [u32], row: Span) -> u32
+        requires row_fits { SpanFits row (length px.old) }
+        requires at { self.yc ≡ centre_of row.y }
+        requires part { LevelPart self.o.s row.x0 row.x1 self.o.level }
+        ensures { DrewSpan row (band_ink self.o.s self.o.width self.o.c) px.old result px.new }
+    {
+        if self.qy >= 0.0 {
+            let Columns { from, upto } = self.o.level;
+            let middle = Span {
+                x0: from,
+                x1: upto,
+                ..row
+            };
+            let left = self.corner_span(px, Span { x1: from, ..row });
+            let between = middle.draw(px, |_, p| blend_c(p, self.o.c, self.level));
+            let right = self.corner_span(px, Span { x0: upto, ..row });
+            left + between + right
+        } else {
+            self.corner_span(px, row)
+        }
+    }
+
+    // The two sides of a row, with a gap between them.
+    fn side_spans(self, px: &mut [u32], cols: &[u32; 2048], row: Span, g: Columns) -> u32
+        requires row_fits { SpanFits row (length px.old) }
+        requires at { self.yc ≡ centre_of row.y }
+        requires gap { RowGap self.o.s self.o.width (centre_of row.y) g }
+        requires not_full { full_row self.o.s (self.o.width +ᶠ f1) (centre_of row.y) ≡ false }
+        requires holds { Holds (column_cover self.o.s self.o.width) row.x0 row.x1 cols.now }
+        ensures { DrewSpan row (outline_ink self.o.s self.o.width self.o.c) px.old result px.new }
+    {
+        let a = g.from.min(row.x1).max(row.x0);
+        let b = g.upto.min(row.x1).max(a);
+        let left = self.band_span(px, cols, Span { x1: a, ..row });
+        let right = self.band_span(px, cols, Span { x0: b, ..row });
+        left + right
     }
 }
 
-// A part of row y at one coverage.
-fn level_span(
-    px: &mut [u32],
-    pitch: usize,
-    y: usize,
-    x0: usize,
-    x1: usize,
-    c: Color,
-    cv: u32,
-) -> u32
-    requires { RowFits pitch y x0 x1 (length px.old) }
-    ensures { DrewRow pitch y x0 x1 (level_ink c cv) px.old result px.new }
-{
-    let row = y * pitch;
-    let mut n = 0;
-    for x in x0..x1 {
-        let i = row + x;
-        let q = blend_c(px[i], c, cv);
-        px[i] = q.value;
-        n += q.altered as u32;
+impl Frame {
+    // What the columns of a row share.
+    fn level_at(self, yc: f32) -> Level
+        ensures { (result.o ≡ self) × (result.yc ≡ yc) }
+    {
+        let qy = mathf::fabs(yc - self.s.cy) - (self.s.hh - self.s.r);
+        let level = band_cover(qy - self.s.r, self.width);
+        Level {
+            o: self,
+            yc,
+            qy,
+            level,
+        }
     }
-    n
-}
 
-// Row y where it is full: beside no corner it has one coverage.
-fn full_span(
-    px: &mut [u32],
-    pitch: usize,
-    y: usize,
-    x0: usize,
-    x1: usize,
-    o: Frame,
-    l: Level,
-) -> u32
-    requires row_fits { RowFits pitch y x0 x1 (length px.old) }
-    requires level_of { LevelOf o.s o.width (centre_of y) l × LevelPart o.s x0 x1 o.level }
-    ensures { DrewRow pitch y x0 x1 (band_ink o.s o.width o.c) px.old result px.new }
-{
-    if l.qy >= 0.0 {
-        let a = o.level.from;
-        let b = o.level.upto;
-        let left = corner_span(px, pitch, y, x0, a, o, l);
-        let middle = level_span(px, pitch, y, a, b, o.c, l.level);
-        let right = corner_span(px, pitch, y, b, x1, o, l);
-        left + middle + right
-    } else {
-        corner_span(px, pitch, y, x0, x1, o, l)
+    // The gap of a row.
+    #[tactic(auto, unfolding(crate::specs::Stroke::side_width, crate::specs::Stroke::gap_from, crate::specs::Stroke::gap_upto))]
+    fn gap_at(self, yc: f32) -> Columns
+        ensures { RowGap self.s self.width yc result }
+    {
+        if corner_row(self.s, yc) {
+            self.bent
+        } else {
+            self.straight
+        }
     }
-}
 
-// The two sides of row y, with a gap between them.
-fn side_spans(
-    px: &mut [u32],
-    cols: &[u32; 2048],
-    pitch: usize,
-    y: usize,
-    x0: usize,
-    x1: usize,
-    o: Frame,
-    l: Level,
-    g: Columns,
-) -> u32
-    requires row_fits { RowFits pitch y x0 x1 (length px.old) }
-    requires level_of { LevelOf o.s o.width (centre_of y) l × RowGap o.s o.width (centre_of y) g
-        × (full_row o.s (o.width +ᶠ f1) (centre_of y) ≡ false) }
-    requires holds { Holds (column_cover o.s o.width) x0 x1 cols.now }
-    ensures { DrewRow pitch y x0 x1 (outline_ink o.s o.width o.c) px.old result px.new }
-{
-    let a = between(g.from, x0, x1);
-    let b = between(g.upto, a, x1);
-    let left = band_span(px, cols, pitch, y, x0, a, o, l);
-    let right = band_span(px, cols, pitch, y, b, x1, o, l);
-    left + right
-}
-
-// The gap of a row.
-fn row_gap(o: Frame, yc: f32) -> Columns
-    requires { Ready o }
-    ensures { RowGap o.s o.width yc result }
-{
-    if corner_row(o.s, yc) {
-        o.bent
-    } else {
-        o.straight
+    // A row: whole, or its two sides.
+    fn draw_row(self, px: &mut [u32], cols: &[u32; 2048], row: Span) -> u32
+        requires row_fits { SpanFits row (length px.old) }
+        requires part { LevelPart self.s row.x0 row.x1 self.level }
+        requires holds { Holds (column_cover self.s self.width) row.x0 row.x1 cols.now }
+        ensures { DrewSpan row (outline_ink self.s self.width self.c) px.old result px.new }
+    {
+        let yc = centre(row.y as u16);
+        let l = self.level_at(yc);
+        if full_row(self.s, self.width + 1.0, yc) {
+            l.full_span(px, row)
+        } else {
+            l.side_spans(px, cols, row, self.gap_at(yc))
+        }
     }
-}
-
-// Row y: whole, or its two sides.
-fn outline_row(
-    px: &mut [u32],
-    cols: &[u32; 2048],
-    pitch: usize,
-    y: usize,
-    x0: usize,
-    x1: usize,
-    o: Frame,
-) -> u32
-    requires row_fits { RowFits pitch y x0 x1 (length px.old) }
-    requires ready { Ready o × LevelPart o.s x0 x1 o.level × Holds (column_cover o.s o.width) x0 x1 cols.now }
-    ensures { DrewRow pitch y x0 x1 (outline_ink o.s o.width o.c) px.old result px.new }
-{
-    let yc = centre(y as u16);
-    let l = level_of(o, yc);
-    if full_row(o.s, o.width + 1.0, yc) {
-        full_span(px, pitch, y, x0, x1, o, l)
-    } else {
-        side_spans(px, cols, pitch, y, x0, x1, o, l, row_gap(o, yc))
-    }
-}
-
-// The rows of an area.
-fn outline_box(px: &mut [u32], cols: &[u32; 2048], pitch: usize, b: Area, o: Frame) -> u32
-    requires area_fits { AreaFits pitch b (length px.old) }
-    requires ready { Ready o × LevelPart o.s b.x0 b.x1 o.level
-        × Holds (column_cover o.s o.width) b.x0 b.x1 cols.now }
-    ensures { DrewIn pitch b (outline_ink o.s o.width o.c) px.old result px.new }
-{
-    let x0 = b.x0;
-    let x1 = b.x1;
-    let y0 = b.y0;
-    let y1 = b.y1;
-    let mut n = 0;
-    for y in y0..y1 {
-        n += outline_row(px, cols, pitch, y, x0, x1, o);
-    }
-    n
 }
 
 // An area of the outline of a rectangle: what its rows share is worked out first.
@@ -521,8 +405,8 @@ fn outline_all(px: &mut [u32], pitch: usize, b: Area, s: Rounded, width: f32, c:
         far: blank_from(s.r),
         near: blank_upto(s.r, width),
     };
-    let cols = column_covers(s, width, b.x0, b.x1);
-    outline_box(px, &cols, pitch, b, o)
+    let cols = filled(b.x0, b.x1, |x| column_cover(s, width, x));
+    b.draw(px, pitch, |px, row| o.draw_row(px, &cols, row))
 }
 
 // The same, where the area has rows.

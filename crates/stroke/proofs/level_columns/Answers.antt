@@ -1,33 +1,20 @@
--- `stroke::level_columns` meets its contract. The columns before x are level. Assumes nothing.
-use native.Mathlib.Omega.{arith}
-use Rattle.stroke.proofs.Levels.{level_none, level_more, level_upto}
+-- `stroke::level_columns` meets its contract. Assumes nothing.
+use borrow.Author.Tests.{tests}
+use Rattle.std.proofs.Common.{rules, ◌≡◌, true, ◌-◌, refl}
+use Rattle.std.specs.Bool.{⊤}
+use Rattle.std.proofs.lemmas.Bool.{MatchBool-at_true}
+use Rattle.std.proofs.lemmas.Iterator.{cases_from_all, YieldsList-from_range}
+use Rattle.mathf.specs.F32.{◌-ᶠ◌, ◌≤ᶠ◌, f0}
+use Rattle.mathf.specs.Order.{fabs_of}
+use Rattle.paints.specs.Paints.{centre_of}
+use Rattle.stroke.proofs.Levels.{level_all}
 use Rattle.stroke.proofs.level_columns.Goals as goal
-
-pub loop-x-init : goal.loop-x-init
-loop-x-init c = (level_none _ _ _ (omega arith), omega arith)
-
-pub overflow_cast-x : goal.overflow_cast-x
-overflow_cast-x c = omega arith
-
-pub centre-requires : goal.centre-requires
-centre-requires c = omega arith
-
-pub fabs-requires : goal.fabs-requires
-fabs-requires c = omega arith
-
-pub returns-then-not-qx : goal.returns-then-not-qx
-returns-then-not-qx c = λ e. absurd e
-
-pub overflow_step-x : goal.overflow_step-x
-overflow_step-x c = omega arith
-
-pub loop-x-smaller : goal.loop-x-smaller
-loop-x-smaller c = omega arith
-
-pub loop-x-preserved : goal.loop-x-preserved
-loop-x-preserved c =
-    let e = rw (c.fabs.ensures, c.centre.ensures) at c.if-not-qx.false in
-    (level_more _ _ _ c.loop-x.invariant.0 (e), omega arith)
+use lib.Ieee.Bits.{is_true}
 
 pub returns : goal.returns
-returns c = λ e. level_upto _ _ _ _ c.loop-x.invariant.0 c.loop-x-test.false
+returns c = λ e.
+    let s = c.args.s in
+    let found = cases_from_all _ _ _ (λ x. (fabs_of (centre_of x -ᶠ s.cx) -ᶠ (s.hw -ᶠ s.r) ≤ᶠ f0) ≡ true) (λ x. ⊤) c.all.ensures.ran
+    (YieldsList-from_range c.args.a c.args.b (c.args.b - c.args.a) refl refl)
+    (λ x q k. search (rules, tests)) (λ x q k. tt) in
+    level_all s c.args.a c.args.b (MatchBool-at_true _ _ (is_true c.all.result e) found)

@@ -1,6 +1,5 @@
 -- `stroke::outline` meets its contract. Assumes nothing.
 use mathlib.Core.Path.{◌∙◌, sym}
-use native.Mathlib.Omega.{arith}
 use Rattle.draw.proofs.Clips.{drawn_clip}
 use Rattle.draw.proofs.Loops.{drew_as}
 use Rattle.gfx.proofs.Answers.{refused_shape, accepted_shape}
@@ -14,9 +13,6 @@ returns-then-number-ne0 c = refused_shape c.shape_number-number.ensures c.if-num
 pub outline_area-steps-requires : goal.outline_area-steps-requires
 outline_area-steps-requires c =
     rw c.clipped-b.ensures (canvas_fits _ _ _ (shape_open _ _ _ (sym c.shape_number-number.ensures ∙ c.if-number-ne0.false)))
-
-pub overflow_cast-steps : goal.overflow_cast-steps
-overflow_cast-steps c = omega (arith, c.outline_area-steps.ensures.few)
 
 pub returns : goal.returns
 returns c =

@@ -1,18 +1,17 @@
 -- `stroke::outline_all` meets its contract. Assumes nothing.
-use native.Mathlib.Omega.{arith}
+use Rattle.std.proofs.Common.{rules}
+use Rattle.stroke.specs.Stroke.{outline_ink}
+use Rattle.stroke.specs.Rows.{column_cover}
 use Rattle.stroke.proofs.outline_all.Goals as goal
 
-pub level_part-level-requires : goal.level_part-level-requires
-level_part-level-requires c = (c.requires.across, c.requires.wide)
-
-pub column_covers-cols-requires : goal.column_covers-cols-requires
-column_covers-cols-requires c = (c.requires.across, c.requires.wide)
-
-pub outline_box-requires : goal.outline_box-requires
-outline_box-requires c = record { area_fits = c.requires; ready = (record { outside = c.blank_from.ensures _; inside = c.blank_upto.ensures; bent = c.gap-bent.ensures; straight = c.gap-straight.ensures }, c.level_part-level.ensures, c.column_covers-cols.ensures) }
-
-pub shape_of-px : goal.shape_of-px
-shape_of-px c = omega arith
+pub draw-requires-clause-draws : goal.draw-requires-clause-draws
+draw-requires-clause-draws c =
+    let a = c.args in
+    let k = c.filled-cols.ensures (column_cover a.s a.width) (λ x q u v e. search rules) in
+    (outline_ink a.s a.width a.c, λ px y n px' u v w e. search rules)
 
 pub returns : goal.returns
-returns c = c.outline_box.ensures
+returns c =
+    let a = c.args in
+    let k = c.filled-cols.ensures (column_cover a.s a.width) (λ x q u v e. search rules) in
+    c.draw.ensures (outline_ink a.s a.width a.c) (λ px y n px' u v w e. search rules)
