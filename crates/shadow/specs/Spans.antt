@@ -22,11 +22,11 @@ table_alpha lut t = cond (t ≤ᶠ f0) (get_or lut 0 0) (cond (f96 ≤ᶠ t) 0 (
 unfoldable pub flat_ink : Color → ℕ → ℕ → ℕ → ℕ → ℕ
 flat_ink c v x y p = over p c v
 
-unfoldable pub straight_ink : Rounded → Float → Color → Float → ℕ → ℕ → ℕ → ℕ
-straight_ink s blur c sdy x y p = over p c (straight_side s c.a blur sdy (centre_of x))
+unfoldable pub straight_ink : Shade → Float → ℕ → ℕ → ℕ → ℕ
+straight_ink h sdy x y p = over p h.c (straight_side h.s h.c.a h.blur sdy (centre_of x))
 
-unfoldable pub corner_ink : Rounded → Float → Color → Float → ℕ → ℕ → ℕ → ℕ
-corner_ink s blur c qy x y p = over p c (corner_side s c.a blur qy (centre_of x))
+unfoldable pub corner_ink : Shade → Float → ℕ → ℕ → ℕ → ℕ
+corner_ink h qy x y p = over p h.c (corner_side h.s h.c.a h.blur qy (centre_of x))
 
 -- the alpha of a column by its own distance, and, in a row that is not straight, that of the column k past x0
 unfoldable pub column_alpha : Shade → ℕ → ℕ
@@ -35,17 +35,13 @@ column_alpha h x = alpha_of h.c.a h.blur (fabs_of (centre_of x -ᶠ h.s.cx) -ᶠ
 unfoldable pub side_alpha : Shade → Float → ℕ → ℕ → ℕ
 side_alpha h qy x0 k = corner_side h.s h.c.a h.blur qy (centre_of (x0 + k))
 
--- each column at its alpha, of which x0 has the first
-unfoldable pub each_ink : Color → ℕ → List ℕ → ℕ → ℕ → ℕ → ℕ
-each_ink c x0 alphas x y p = over p c (get_or alphas (x - x0) 0)
-
 -- from the squared distance k of the centre of a corner on, there is no shadow
 unfoldable pub Faded : Float → Float → Float → Type 0
 Faded r blur k = (a : ℕ) (d : Float) → T (fits binary32 d) → (k ≤ᶠ d) ≡ true → alpha_of a blur (sqrt_of d -ᶠ r) ≡ 0
 
 -- the table is the colour's, the scale the blur's, and `far` such a distance
-pub record Table (h : Shade) (lut : List ℕ) : Type 0 where
-  pub levels : lut ≡ table (level_of h.c.a) 97
+pub record Table (h : Shade) : Type 0 where
+  pub levels : h.lut.now ≡ table (level_of h.c.a) 97
   pub scaled : h.scale ≡ f96 /ᶠ (f2 *ᶠ h.blur)
   pub faded : Faded h.s.r h.blur h.far
 

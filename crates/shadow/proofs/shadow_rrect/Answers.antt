@@ -30,5 +30,5 @@ overflow_cast-steps c = omega (arith, c.shade_area-steps.ensures.few)
 
 pub returns : goal.returns
 returns c =
-    let e = rw (c.clipped-b.ensures, c.shadow_reach.ensures) at c.shade_area-steps.ensures in
+    let e = rw (c.clipped-b.ensures, c.shadow_reach.ensures, c.of.ensures) at c.shade_area-steps.ensures in
     accepted_shape (number (goal.at.returns c).After-shape_number-number) c.if-number-ne0.false (drew_as e (sym (drawn_clip _ _ _ _ _)))
