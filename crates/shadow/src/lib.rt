@@ -4,6 +4,7 @@
 ghost use Rattle.std.specs.Prelude.{◌≡◌, ◌+◌, ◌<◌, ◌≤◌, length};
 ghost use Rattle.mathf.specs.F32.{◌-ᶠ◌, ◌/ᶠ◌, ◌*ᶠ◌, f2, f96};
 ghost use Rattle.mathf.specs.Root.{sqrt_of};
+ghost use Rattle.mathf.specs.Convert.{to_i32};
 ghost use Rattle.geom.specs.Int.{up};
 ghost use Rattle.draw.specs.Draw.{drawn};
 ghost use Rattle.draw.specs.Held.{Holds};
@@ -27,12 +28,8 @@ use paints::{Rounded, centre};
 pub fn shadow_reach(rect: Rect, blur: f32, c: Color) -> IRect
     ensures { result ≡ shadow_reach rect blur c }
 {
-    let a = c.a;
-    if a == 0 {
-        return IRect::new(0, 0, 0, 0);
-    }
-    if blur <= 0.0 {
-        return IRect::new(0, 0, 0, 0);
+    if c.a == 0 || blur <= 0.0 {
+        return IRect::ZERO;
     }
     IRect::from_rect_outer(rect.inset(-blur))
 }
@@ -66,29 +63,36 @@ fn far_of(r: f32, blur: f32, scale: f32) -> f32
     if out & past & small { k } else { 0.0 / 0.0 }
 }
 
+// A whole number as a column: 0 for those below 0.
+fn column_at(x: f32) -> usize
+    ensures { result ≡ up (to_i32 x) }
+{
+    nat_of(mathf::to_i32(x))
+}
+
 // The middle columns of a straight row, and of any other: the first, and the first past them.
 fn straight_from(s: Rounded, blur: f32) -> usize
     ensures { result ≡ up (straight_from s blur) }
 {
-    nat_of(mathf::to_i32(mathf::ceil(s.cx - s.hw + blur)))
+    column_at(mathf::ceil(s.cx - s.hw + blur))
 }
 
 fn straight_upto(s: Rounded, blur: f32) -> usize
     ensures { result ≡ up (straight_upto s blur) }
 {
-    nat_of(mathf::to_i32(mathf::floor(s.cx + s.hw - blur)))
+    column_at(mathf::floor(s.cx + s.hw - blur))
 }
 
 fn corner_from(s: Rounded) -> usize
     ensures { result ≡ up (corner_from s) }
 {
-    nat_of(mathf::to_i32(mathf::ceil(s.cx - (s.hw - s.r))))
+    column_at(mathf::ceil(s.cx - (s.hw - s.r)))
 }
 
 fn corner_upto(s: Rounded) -> usize
     ensures { result ≡ up (corner_upto s) }
 {
-    nat_of(mathf::to_i32(mathf::floor(s.cx + (s.hw - s.r))))
+    column_at(mathf::floor(s.cx + (s.hw - s.r)))
 }
 
 // A part of a row at one alpha.
@@ -282,28 +286,20 @@ impl Shade<'_> {
     }
 }
 
-// An area of the shadow of a rectangle: what its rows share is worked out first.
-fn shade_all(px: &mut [u32], pitch: usize, b: Area, s: Rounded, blur: f32, c: Color, skip: bool) -> u32
+// An area of a shadow: what its rows share is worked out first.
+fn shade_area(px: &mut [u32], pitch: usize, b: Area, s: Rounded, blur: f32, c: Color, skip: bool) -> u32
     requires { AreaFits pitch b (length px.old) }
     ensures { DrewIn pitch b (shade_ink s blur c skip) px.old result px.new }
 {
+    if b.y1 <= b.y0 {
+        return 0;
+    }
     let lut = falloff(c.a);
     let scale = 96.0 / (2.0 * blur);
     let far = far_of(s.r, blur, scale);
     let h = Shade { s, blur, scale, far, c, lut: &lut };
     let cols = h.columns(b.x0, b.x1);
     b.draw(px, pitch, |px, row| h.shade_row(px, &cols, row, skip))
-}
-
-// The same, where the area has rows.
-fn shade_area(px: &mut [u32], pitch: usize, b: Area, s: Rounded, blur: f32, c: Color, skip: bool) -> u32
-    requires { AreaFits pitch b (length px.old) }
-    ensures { DrewIn pitch b (shade_ink s blur c skip) px.old result px.new }
-{
-    if b.y0 < b.y1 {
-        return shade_all(px, pitch, b, s, blur, c, skip);
-    }
-    0
 }
 
 // The soft shadow of a rounded rectangle; `blur` is half the width of its falloff.
