@@ -207,8 +207,8 @@ impl Shade<'_> {
         ensures { Holds (side_alpha self.entry qy x0) 0 n result }
     {
         let mut alphas = [0u32; 128];
-        for k in 0..n {
-            alphas[k] = self.corner_side(qy, centre((x0 + k) as u16));
+        for (k, alpha) in alphas[..n].iter_mut().enumerate() {
+            *alpha = self.corner_side(qy, centre((x0 + k) as u16));
         }
         alphas
     }
