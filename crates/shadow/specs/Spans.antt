@@ -1,6 +1,6 @@
 -- What the loops of a row do: the alpha read from the table of levels, and the ink of each part of a row. No call of the library
 -- cites this file.
-use Rattle.std.specs.Prelude.{Bool, true, cond, ◌≡◌, List, ℕ, ◌+◌, ◌-◌, get_or, T, Float}
+use Rattle.std.specs.Prelude.{Bool, true, cond, ◌≡◌, List, ℕ, ◌+◌, get_or, T, Float}
 use Rattle.std.specs.Float.{binary32}
 use Rattle.std.specs.Float.Ieee.{fits}
 use Rattle.mathf.specs.F32.{◌-ᶠ◌, ◌*ᶠ◌, ◌/ᶠ◌, ◌≤ᶠ◌, f0, f2, f96}
@@ -9,7 +9,6 @@ use Rattle.mathf.specs.Convert.{to_usize}
 use Rattle.mathf.specs.Order.{fabs_of}
 use Rattle.color.specs.declared.Color.{Color}
 use Rattle.color.specs.Inks.{over}
-use Rattle.paints.specs.declared.Rounded.{Rounded}
 use Rattle.paints.specs.Paints.{centre_of}
 use Rattle.shadow.specs.declared.Shade.{Shade}
 use Rattle.shadow.specs.Shadow.{level_of, table, alpha_of, straight_side, corner_side, straight_alpha, corner_alpha}

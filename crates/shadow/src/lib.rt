@@ -48,7 +48,8 @@ fn table_alpha(lut: &[u32; 97], t: f32) -> u32
     lut[i]
 }
 
-// A squared distance of a corner's centre, from which on there is no shadow: a NaN where none was found.
+// A squared distance of a corner's centre, from which on there is no shadow: a NaN where none was found. It is no Option: each
+// pixel compares with it, and nothing is at a NaN or beyond, so that one comparison serves both cases.
 fn far_of(r: f32, blur: f32, scale: f32) -> f32
     requires { scale ≡ f96 /ᶠ (f2 *ᶠ blur) }
     ensures { Faded r blur result }
@@ -151,6 +152,7 @@ impl Shade<'_> {
         ensures { Holds (column_alpha self.entry) x0 x1 result }
     {
         let mut cols = [0u32; 2048];
+        // By index: the columns' own numbers are what the alphas are told by, and a slice would count them from 0.
         for x in x0..x1 {
             cols[x] = self.column_alpha(x);
         }
@@ -197,7 +199,10 @@ impl Shade<'_> {
         requires v_value { v ≡ alpha_of self.c.a self.blur sdy }
         ensures { DrewSpan row (straight_ink self.entry sdy) px.old result px.new }
     {
-        row.draw(px, |x, p| over_wide(p, self.c, self.straight_side(sdy, x, cols[x], v)))
+        row.draw(
+            px,
+            |x, p| over_wide(p, self.c, self.straight_side(sdy, x, cols[x], v)),
+        )
     }
 
     // The alphas of n columns from x0 on of any other row, beside its middle.
@@ -232,13 +237,28 @@ impl Shade<'_> {
     {
         let mut n = 0;
         for x in (row.x0..row.x1).step_by(128) {
-            n += self.corner_part(px, Span { x0: x, x1: row.x1.min(x + 128), ..row }, qy);
+            n += self.corner_part(
+                px,
+                Span {
+                    x0: x,
+                    x1: row.x1.min(x + 128),
+                    ..row
+                },
+                qy,
+            );
         }
         n
     }
 
     // A row where it is straight.
-    fn straight_row(self, px: &mut [u32], cols: &[u32; 2048], row: Span, skip: bool, sdy: f32) -> u32
+    fn straight_row(
+        self,
+        px: &mut [u32],
+        cols: &[u32; 2048],
+        row: Span,
+        skip: bool,
+        sdy: f32,
+    ) -> u32
         requires row_fits { SpanFits row (length px.old) }
         requires table { Table self }
         requires holds { Holds (column_alpha self) row.x0 row.x1 cols.now }
@@ -249,7 +269,16 @@ impl Shade<'_> {
         let m = self.straight_middle(skip, sdy);
         let v = self.alpha_of(sdy);
         let left = self.straight_span(px, cols, Span { x1: a, ..row }, sdy, v);
-        let middle = flat_span(px, Span { x0: a, x1: b, ..row }, self.c, m);
+        let middle = flat_span(
+            px,
+            Span {
+                x0: a,
+                x1: b,
+                ..row
+            },
+            self.c,
+            m,
+        );
         let right = self.straight_span(px, cols, Span { x0: b, ..row }, sdy, v);
         left + middle + right
     }
@@ -264,7 +293,16 @@ impl Shade<'_> {
         let b = corner_upto(self.s).min(row.x1).max(a);
         let v = self.alpha_of(qy - self.s.r);
         let left = self.corner_span(px, Span { x1: a, ..row }, qy);
-        let middle = flat_span(px, Span { x0: a, x1: b, ..row }, self.c, v);
+        let middle = flat_span(
+            px,
+            Span {
+                x0: a,
+                x1: b,
+                ..row
+            },
+            self.c,
+            v,
+        );
         let right = self.corner_span(px, Span { x0: b, ..row }, qy);
         left + middle + right
     }
@@ -287,7 +325,15 @@ impl Shade<'_> {
 }
 
 // An area of a shadow: what its rows share is worked out first.
-fn shade_area(px: &mut [u32], pitch: usize, b: Area, s: Rounded, blur: f32, c: Color, skip: bool) -> u32
+fn shade_area(
+    px: &mut [u32],
+    pitch: usize,
+    b: Area,
+    s: Rounded,
+    blur: f32,
+    c: Color,
+    skip: bool,
+) -> u32
     requires { AreaFits pitch b (length px.old) }
     ensures { DrewIn pitch b (shade_ink s blur c skip) px.old result px.new }
 {
@@ -297,7 +343,14 @@ fn shade_area(px: &mut [u32], pitch: usize, b: Area, s: Rounded, blur: f32, c: C
     let lut = falloff(c.a);
     let scale = 96.0 / (2.0 * blur);
     let far = far_of(s.r, blur, scale);
-    let h = Shade { s, blur, scale, far, c, lut: &lut };
+    let h = Shade {
+        s,
+        blur,
+        scale,
+        far,
+        c,
+        lut: &lut,
+    };
     let cols = h.columns(b.x0, b.x1);
     b.draw(px, pitch, |px, row| h.shade_row(px, &cols, row, skip))
 }

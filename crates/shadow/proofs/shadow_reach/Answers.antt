@@ -10,8 +10,8 @@ pub returns-then-c-eq0 : goal.returns-then-c-eq0
 unfolding shadow_reach no_box
 returns-then-c-eq0 c =
     elim c.then-c-eq0.branch [
-      then-c-eq0-via-then-c-eq0 w ↦ rw (eq-eqb _ _ w.if-c-eq0.true) refl
-    | then-c-eq0-via-else-c-eq0+then-blur w ↦ rw (ne_eqb _ _ w.if-c-eq0.false, w.if-blur.true) refl
+      | then-c-eq0-via-then-c-eq0 w ↦ rw (eq-eqb _ _ w.if-c-eq0.true) refl
+      | then-c-eq0-via-else-c-eq0+then-blur w ↦ rw (ne_eqb _ _ w.if-c-eq0.false, w.if-blur.true) refl
     ]
 
 pub returns : goal.returns

@@ -1,6 +1,5 @@
 -- `shadow::shadow_rrect` meets its contract. Assumes nothing.
 use mathlib.Core.Path.{◌≡◌, ◌∙◌, sym}
-use native.Mathlib.Omega.{arith}
 use lib.ListN.{length}
 use Rattle.draw.proofs.Loops.{drew_as}
 use Rattle.draw.proofs.Clips.{drawn_clip}
@@ -24,9 +23,6 @@ returns-then-number-ne0 c = refused_shape (number (goal.at.returns-then-number-n
 pub shade_area-steps-requires : goal.shade_area-steps-requires
 shade_area-steps-requires c =
     rw c.clipped-b.ensures (canvas_fits _ _ _ (shape_open _ _ _ (sym (number (goal.at.shade_area-steps-requires c).After-shape_number-number) ∙ c.if-number-ne0.false)))
-
-pub overflow_cast-steps : goal.overflow_cast-steps
-overflow_cast-steps c = omega (arith, c.shade_area-steps.ensures.few)
 
 pub returns : goal.returns
 returns c =

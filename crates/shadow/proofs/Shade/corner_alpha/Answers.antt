@@ -1,5 +1,5 @@
 -- `Shade::corner_alpha` meets its contract. Assumes nothing.
-use Rattle.std.proofs.Common.{sym, rules, ◌∙◌, T}
+use Rattle.std.proofs.Common.{sym, rules, T}
 use lib.Ieee.{binary32, fits}
 use Rattle.shadow.specs.Spans.{Faded}
 use Rattle.shadow.proofs.Shade.corner_alpha.Goals.{Start}
@@ -12,6 +12,3 @@ fit c = search rules
 pub returns-then-self-d : goal.returns-then-self-d
 unfolding Faded
 returns-then-self-d c = sym (c.requires.faded c.args.self.c.a c.args.d (fit (goal.at.returns-then-self-d c).Start) c.if-self-d.true)
-
-pub returns : goal.returns
-returns c = c.alpha_of.ensures ∙ rw c.sqrt.ensures

@@ -1,5 +1,5 @@
 -- `Shade::straight_row` meets its contract. Assumes nothing.
-use Rattle.std.proofs.Common.{arith, sym, ◌∙◌}
+use Rattle.std.proofs.Common.{arith}
 use Rattle.draw.proofs.Held.{held_part}
 use Rattle.shadow.specs.Shadow.{straight_from, straight_upto}
 use Rattle.shadow.specs.Spans.{column_alpha, flat_ink, straight_ink, straight_row_ink}
