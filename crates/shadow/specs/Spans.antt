@@ -1,5 +1,4 @@
--- What the loops of a row do: the alpha read from the table of levels, and the ink of each part of a row. No call of the library
--- cites this file.
+-- What is drawn of a row: the ink of each part. No call of the library cites this file.
 use Rattle.std.specs.Prelude.{Bool, true, cond, ◌≡◌, List, ℕ, ◌+◌, get_or, T, Float}
 use Rattle.std.specs.Float.{binary32}
 use Rattle.std.specs.Float.Ieee.{fits}
@@ -12,10 +11,6 @@ use Rattle.color.specs.Inks.{over}
 use Rattle.paints.specs.Paints.{centre_of}
 use Rattle.shadow.specs.declared.Shade.{Shade}
 use Rattle.shadow.specs.Shadow.{level_of, table, alpha_of, straight_side, corner_side, straight_alpha, corner_alpha}
-
--- the alpha at t levels out, from the table
-unfoldable pub table_alpha : List ℕ → Float → ℕ
-table_alpha lut t = cond (t ≤ᶠ f0) (get_or lut 0 0) (cond (f96 ≤ᶠ t) 0 (get_or lut (to_usize t) 0))
 
 -- one alpha for a whole part; and beside the middle, in a straight row and in any other
 unfoldable pub flat_ink : Color → ℕ → ℕ → ℕ → ℕ → ℕ
@@ -33,16 +28,6 @@ column_alpha h x = alpha_of h.c.a h.blur (fabs_of (centre_of x -ᶠ h.s.cx) -ᶠ
 
 unfoldable pub side_alpha : Shade → Float → ℕ → ℕ → ℕ
 side_alpha h qy x0 k = corner_side h.s h.c.a h.blur qy (centre_of (x0 + k))
-
--- from the squared distance k of the centre of a corner on, there is no shadow
-unfoldable pub Faded : Float → Float → Float → Type 0
-Faded r blur k = (a : ℕ) (d : Float) → T (fits binary32 d) → (k ≤ᶠ d) ≡ true → alpha_of a blur (sqrt_of d -ᶠ r) ≡ 0
-
--- the table is the colour's, the scale the blur's, and `far` such a distance
-pub record Table (h : Shade) : Type 0 where
-  pub levels : h.lut.now ≡ table (level_of h.c.a) 97
-  pub scaled : h.scale ≡ f96 /ᶠ (f2 *ᶠ h.blur)
-  pub faded : Faded h.s.r h.blur h.far
 
 -- a straight row, and any other
 unfoldable pub straight_row_ink : Shade → Bool → Float → ℕ → ℕ → ℕ → ℕ

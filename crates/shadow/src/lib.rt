@@ -11,11 +11,9 @@ ghost use Rattle.draw.specs.Held.{Holds};
 ghost use Rattle.draw.specs.Areas.{SpanFits, AreaFits, DrewSpan, DrewIn};
 ghost use Rattle.gfx.specs.Calls.{ShapeCalled, shape_number};
 ghost use Rattle.paints.specs.Paints.{centre_of};
-ghost use Rattle.shadow.specs.Shadow.{shadow_ok, shadow_reach, level_of, table, steps_out, alpha_of, row_dy, row_qy, straight_from};
-ghost use Rattle.shadow.specs.Shadow.{straight_upto, straight_middle, straight_side, corner_from, corner_upto, corner_side};
-ghost use Rattle.shadow.specs.Shadow.{shade_ink, shadow_ink};
-ghost use Rattle.shadow.specs.Spans.{Faded, Table, column_alpha, side_alpha, table_alpha, flat_ink, straight_ink, corner_ink};
-ghost use Rattle.shadow.specs.Spans.{straight_row_ink, corner_row_ink};
+ghost use Rattle.shadow.specs.Shadow.{shadow_ok, shadow_reach, level_of, table, straight_from, straight_upto, corner_from};
+ghost use Rattle.shadow.specs.Shadow.{corner_upto, shade_ink, shadow_ink};
+ghost use Rattle.shadow.specs.Levels.{table_alpha, Faded};
 
 use color::{Color, over, over_wide};
 use draw::{Area, Span, clipped};
@@ -96,14 +94,6 @@ fn corner_upto(s: Rounded) -> usize
     column_at(mathf::floor(s.cx + (s.hw - s.r)))
 }
 
-// A part of a row at one alpha.
-fn flat_span(px: &mut [u32], row: Span, c: Color, v: u32) -> u32
-    requires { SpanFits row (length px.old) }
-    ensures { DrewSpan row (flat_ink c v) px.old result px.new }
-{
-    row.draw(px, |_, p| over(p, c, v))
-}
-
 // What every row of a shadow asks: its rectangle, the blur, the levels to a pixel, the squared distance of a corner's centre
 // where it has faded, the colour, and the table of its levels.
 #[derive(Clone, Copy)]
@@ -114,12 +104,18 @@ struct Shade<'a> {
     far: f32,
     c: Color,
     lut: &'a [u32; 97],
+    ghost levels: { lut.now ≡ table (level_of c.a) 97 },
+    ghost scaled: { scale ≡ f96 /ᶠ (f2 *ᶠ blur) },
+    ghost faded: { Faded s.r blur far },
 }
 
 impl Shade<'_> {
+    ghost use Rattle.shadow.specs.Shadow.{alpha_of, straight_middle, straight_side, corner_side};
+    ghost use Rattle.shadow.specs.Spans.{column_alpha, side_alpha, flat_ink, straight_ink, corner_ink, straight_row_ink};
+    ghost use Rattle.shadow.specs.Spans.{corner_row_ink};
+
     // The alpha at a signed distance.
     fn alpha_of(self, sd: f32) -> u32
-        requires { Table self }
         ensures { result ≡ alpha_of self.entry.c.a self.entry.blur sd }
     {
         table_alpha(self.lut, (sd + self.blur) * self.scale)
@@ -127,7 +123,6 @@ impl Shade<'_> {
 
     // The alpha at the squared distance d of a corner's centre.
     fn corner_alpha(self, d: f32) -> u32
-        requires { Table self }
         ensures { result ≡ alpha_of self.entry.c.a self.entry.blur (sqrt_of d -ᶠ self.entry.s.r) }
     {
         if self.far <= d {
@@ -138,8 +133,7 @@ impl Shade<'_> {
 
     // The alpha of column x by its own distance.
     fn column_alpha(self, x: usize) -> u32
-        requires table { Table self }
-        requires x_bound { x < 2048 }
+        requires { x < 2048 }
         ensures { result ≡ column_alpha self.entry x }
     {
         self.alpha_of(mathf::fabs(centre(x as u16) - self.s.cx) - self.s.hw)
@@ -147,8 +141,7 @@ impl Shade<'_> {
 
     // That of the columns x0 up to x1, which all straight rows share: filled once a call.
     fn columns(self, x0: usize, x1: usize) -> [u32; 2048]
-        requires table { Table self }
-        requires x0_le_x1 { (x0 ≤ x1) × (x1 ≤ 2048) }
+        requires { (x0 ≤ x1) × (x1 ≤ 2048) }
         ensures { Holds (column_alpha self.entry) x0 x1 result }
     {
         let mut cols = [0u32; 2048];
@@ -171,7 +164,6 @@ impl Shade<'_> {
 
     // The alpha beside the middle of any other row.
     fn corner_side(self, qy: f32, xc: f32) -> u32
-        requires { Table self }
         ensures { result ≡ corner_side self.entry.s self.entry.c.a self.entry.blur qy xc }
     {
         let qx = mathf::fabs(xc - self.s.cx) - (self.s.hw - self.s.r);
@@ -184,12 +176,19 @@ impl Shade<'_> {
 
     // The alpha of the middle of a straight row: with `skip` none where it is full.
     fn straight_middle(self, skip: bool, sdy: f32) -> u32
-        requires { Table self }
         ensures { result ≡ straight_middle self.entry.c.a self.entry.blur skip sdy }
     {
         let v = self.alpha_of(sdy);
         let full = self.lut[0] <= v;
         if skip & full { 0 } else { v }
+    }
+
+    // A part of a row at one alpha.
+    fn flat_span(self, px: &mut [u32], row: Span, v: u32) -> u32
+        requires { SpanFits row (length px.old) }
+        ensures { DrewSpan row (flat_ink self.entry.c v) px.old result px.new }
+    {
+        row.draw(px, |_, p| over(p, self.c, v))
     }
 
     // A part of a straight row beside its middle; `v` is the alpha by the row's own distance.
@@ -207,8 +206,7 @@ impl Shade<'_> {
 
     // The alphas of n columns from x0 on of any other row, beside its middle.
     fn corner_alphas(self, x0: usize, n: usize, qy: f32) -> [u32; 128]
-        requires table { Table self }
-        requires n_bound { (x0 + n ≤ 2048) × (n ≤ 128) }
+        requires { (x0 + n ≤ 2048) × (n ≤ 128) }
         ensures { Holds (side_alpha self.entry qy x0) 0 n result }
     {
         let mut alphas = [0u32; 128];
@@ -221,7 +219,6 @@ impl Shade<'_> {
     // At most 128 columns of any other row, beside its middle: their alphas first, then all pixels.
     fn corner_part(self, px: &mut [u32], row: Span, qy: f32) -> u32
         requires row_fits { SpanFits row (length px.old) }
-        requires table { Table self }
         requires x1_bound { row.x1 ≤ row.x0 + 128 }
         ensures { DrewSpan row (corner_ink self.entry qy) px.old result px.new }
     {
@@ -231,8 +228,7 @@ impl Shade<'_> {
 
     // A part of any other row, beside its middle.
     fn corner_span(self, px: &mut [u32], row: Span, qy: f32) -> u32
-        requires row_fits { SpanFits row (length px.old) }
-        requires table { Table self }
+        requires { SpanFits row (length px.old) }
         ensures { DrewSpan row (corner_ink self.entry qy) px.old result px.new }
     {
         let mut n = 0;
@@ -260,7 +256,6 @@ impl Shade<'_> {
         sdy: f32,
     ) -> u32
         requires row_fits { SpanFits row (length px.old) }
-        requires table { Table self }
         requires holds { Holds (column_alpha self) row.x0 row.x1 cols.now }
         ensures { DrewSpan row (straight_row_ink self.entry skip sdy) px.old result px.new }
     {
@@ -269,14 +264,13 @@ impl Shade<'_> {
         let m = self.straight_middle(skip, sdy);
         let v = self.alpha_of(sdy);
         let left = self.straight_span(px, cols, Span { x1: a, ..row }, sdy, v);
-        let middle = flat_span(
+        let middle = self.flat_span(
             px,
             Span {
                 x0: a,
                 x1: b,
                 ..row
             },
-            self.c,
             m,
         );
         let right = self.straight_span(px, cols, Span { x0: b, ..row }, sdy, v);
@@ -285,22 +279,20 @@ impl Shade<'_> {
 
     // A row where it is not.
     fn corner_row(self, px: &mut [u32], row: Span, qy: f32) -> u32
-        requires row_fits { SpanFits row (length px.old) }
-        requires table { Table self }
+        requires { SpanFits row (length px.old) }
         ensures { DrewSpan row (corner_row_ink self.entry qy) px.old result px.new }
     {
         let a = corner_from(self.s).min(row.x1).max(row.x0);
         let b = corner_upto(self.s).min(row.x1).max(a);
         let v = self.alpha_of(qy - self.s.r);
         let left = self.corner_span(px, Span { x1: a, ..row }, qy);
-        let middle = flat_span(
+        let middle = self.flat_span(
             px,
             Span {
                 x0: a,
                 x1: b,
                 ..row
             },
-            self.c,
             v,
         );
         let right = self.corner_span(px, Span { x0: b, ..row }, qy);
@@ -310,7 +302,6 @@ impl Shade<'_> {
     // Any row.
     fn shade_row(self, px: &mut [u32], cols: &[u32; 2048], row: Span, skip: bool) -> u32
         requires row_fits { SpanFits row (length px.old) }
-        requires table { Table self }
         requires holds { Holds (column_alpha self) row.x0 row.x1 cols.now }
         ensures { DrewSpan row (shade_ink self.entry.s self.entry.blur self.entry.c skip) px.old result px.new }
     {
@@ -322,9 +313,18 @@ impl Shade<'_> {
             self.corner_row(px, row, qy)
         }
     }
+
+    // An area: what its straight rows share is worked out first.
+    fn shade_box(self, px: &mut [u32], pitch: usize, b: Area, skip: bool) -> u32
+        requires { AreaFits pitch b (length px.old) }
+        ensures { DrewIn pitch b (shade_ink self.entry.s self.entry.blur self.entry.c skip) px.old result px.new }
+    {
+        let cols = self.columns(b.x0, b.x1);
+        b.draw(px, pitch, |px, row| self.shade_row(px, &cols, row, skip))
+    }
 }
 
-// An area of a shadow: what its rows share is worked out first.
+// The same of a rectangle's shadow: what all rows share is worked out first.
 fn shade_area(
     px: &mut [u32],
     pitch: usize,
@@ -351,8 +351,7 @@ fn shade_area(
         c,
         lut: &lut,
     };
-    let cols = h.columns(b.x0, b.x1);
-    b.draw(px, pitch, |px, row| h.shade_row(px, &cols, row, skip))
+    h.shade_box(px, pitch, b, skip)
 }
 
 // The soft shadow of a rounded rectangle; `blur` is half the width of its falloff.

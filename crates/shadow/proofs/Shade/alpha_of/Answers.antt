@@ -8,4 +8,4 @@ pub returns : goal.returns
 unfolding steps_out
 returns c =
     let h = c.args.self in
-    (rw (c.requires.levels, c.requires.scaled) at c.table_alpha.ensures) ∙ table_alpha_lem _ h.blur c.args.sd
+    (rw (c.args.self.levels, c.args.self.scaled) at c.table_alpha.ensures) ∙ table_alpha_lem _ h.blur c.args.sd

@@ -4,7 +4,7 @@ use Rattle.draw.proofs.Held.{held_start, held_next}
 use Rattle.shadow.proofs.Shade.columns.Goals as goal
 
 pub loop-x-init : goal.loop-x-init
-loop-x-init c = held_start refl c.requires.x0_le_x1.0
+loop-x-init c = held_start refl c.requires.0
 
 pub loop-x-preserved : goal.loop-x-preserved
-loop-x-preserved c = held_next c.requires.x0_le_x1.1 c.loop-x.invariant c.loop-x-test.true c.column_alpha.ensures
+loop-x-preserved c = held_next c.requires.1 c.loop-x.invariant c.loop-x-test.true c.column_alpha.ensures

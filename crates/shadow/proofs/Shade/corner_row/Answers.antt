@@ -14,7 +14,7 @@ returns c =
     (corner_from h.s) (corner_upto h.s) r.y
     (λ x p e. corner_out h a.qy x r.y p e)
     (λ x p e. rw c.alpha_of-v.ensures (corner_in h a.qy x r.y p e))
-    r.pitch r.x0 r.x1 _ _ _ _ _ _ _ _ c.requires.row_fits.order
+    r.pitch r.x0 r.x1 _ _ _ _ _ _ _ _ c.requires.order
     c.corner_from.ensures c.corner_upto.ensures
     (omega (arith, c.min.ensures, c.max-a.ensures)) (omega (arith, c.min-2.ensures, c.max-b.ensures))
     c.corner_span-left.ensures c.flat_span-middle.ensures c.corner_span-right.ensures

@@ -8,7 +8,7 @@ use Rattle.shadow.proofs.Shade.corner_span.Goals as goal
 pub loop-x-init : goal.loop-x-init
 loop-x-init c =
     let a = c.args in
-    (a.row.x0, omega arith, row_start_lem _ (corner_ink a.self a.qy) _ _ _ _ c.requires.row_fits.order)
+    (a.row.x0, omega arith, row_start_lem _ (corner_ink a.self a.qy) _ _ _ _ c.requires.order)
 
 -- a turn draws the columns from x up to the end that it took
 next : (c : After-corner_part-n) → let a = c.args in

@@ -9,9 +9,9 @@ unfolding straight_middle
 returns-then-skip-full c =
     let at = c.args in
     let left : (at.skip && leb (get_or at.self.lut.now 0 0) c.alpha_of-v.result) ≡ true = c.if-skip-full.true in
-    rw (← c.alpha_of-v.ensures, ← (first_level _ _ c.requires.levels), left)
+    rw (← c.alpha_of-v.ensures, ← (first_level _ _ c.args.self.levels), left)
 
 pub returns-else-skip-full : goal.returns-else-skip-full
 unfolding straight_middle
 returns-else-skip-full c =
-    rw (← c.alpha_of-v.ensures, ← (first_level _ _ c.requires.levels), c.if-skip-full.false)
+    rw (← c.alpha_of-v.ensures, ← (first_level _ _ c.args.self.levels), c.if-skip-full.false)
