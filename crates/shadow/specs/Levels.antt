@@ -1,5 +1,5 @@
 -- The alpha read from the table of levels, and where a shadow has faded. No call of the library cites this file.
-use Rattle.std.specs.Prelude.{Bool, true, cond, ◌≡◌, List, ℕ, get_or, T, Float}
+use Rattle.std.specs.Prelude.{true, cond, ◌≡◌, List, ℕ, get_or, T, Float}
 use Rattle.std.specs.Float.{binary32}
 use Rattle.std.specs.Float.Ieee.{fits}
 use Rattle.mathf.specs.F32.{◌-ᶠ◌, ◌≤ᶠ◌, f0, f96}

@@ -1,16 +1,12 @@
 -- What is drawn of a row: the ink of each part. No call of the library cites this file.
-use Rattle.std.specs.Prelude.{Bool, true, cond, ◌≡◌, List, ℕ, ◌+◌, get_or, T, Float}
-use Rattle.std.specs.Float.{binary32}
-use Rattle.std.specs.Float.Ieee.{fits}
-use Rattle.mathf.specs.F32.{◌-ᶠ◌, ◌*ᶠ◌, ◌/ᶠ◌, ◌≤ᶠ◌, f0, f2, f96}
-use Rattle.mathf.specs.Root.{sqrt_of}
-use Rattle.mathf.specs.Convert.{to_usize}
+use Rattle.std.specs.Prelude.{Bool, ℕ, ◌+◌, Float}
+use Rattle.mathf.specs.F32.{◌-ᶠ◌}
 use Rattle.mathf.specs.Order.{fabs_of}
 use Rattle.color.specs.declared.Color.{Color}
 use Rattle.color.specs.Inks.{over}
 use Rattle.paints.specs.Paints.{centre_of}
 use Rattle.shadow.specs.declared.Shade.{Shade}
-use Rattle.shadow.specs.Shadow.{level_of, table, alpha_of, straight_side, corner_side, straight_alpha, corner_alpha}
+use Rattle.shadow.specs.Shadow.{alpha_of, straight_side, corner_side, straight_alpha, corner_alpha}
 
 -- one alpha for a whole part; and beside the middle, in a straight row and in any other
 unfoldable pub flat_ink : Color → ℕ → ℕ → ℕ → ℕ → ℕ
