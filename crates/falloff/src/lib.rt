@@ -128,8 +128,8 @@ pub fn falloff(a: u8) -> [u32; 97]
 {
     let fractions = on_file();
     let mut lut = [0u32; 97];
-    for i in 0..97 {
-        lut[i] = level(fractions[i], a);
+    for (i, entry) in lut.iter_mut().enumerate() {
+        *entry = level(fractions[i], a);
     }
     lut
 }

@@ -17,7 +17,7 @@ use Rattle.mathf.proofs.Monotone.{mul_mono, sqrt_mono}
 use Rattle.mathf.proofs.Saturating.{passed}
 use Rattle.paints.proofs.Covers.{finite_between, sum_above}
 use Rattle.shadow.specs.Shadow.{steps_out, alpha_of}
-use Rattle.shadow.specs.Spans.{Faded}
+use Rattle.shadow.specs.Levels.{Faded}
 
 abbrev z0 : Float
 z0 = fin false 0 (pos 0)
@@ -119,5 +119,4 @@ unfolding div of_bits
 no_number = refl
 
 pub faded_none : (r blur : Float) → Faded r blur (f0 /ᶠ f0)
-unfolding Faded
 faded_none r blur = λ a d g h. absurd (nan_low (f0 /ᶠ f0) d no_number (passed h))

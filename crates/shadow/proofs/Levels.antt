@@ -17,7 +17,7 @@ use Rattle.mathf.specs.Convert.{to_usize}
 use Rattle.mathf.proofs.Saturating.{failed}
 use Rattle.mathf.proofs.Bounds.{cut_below}
 use Rattle.shadow.specs.Shadow.{level_of, table, steps_out, alpha_of}
-use Rattle.shadow.specs.Spans.{table_alpha}
+use Rattle.shadow.specs.Levels.{table_alpha}
 
 pub length_table : (f : ℕ → ℕ) (n : ℕ) → length (table f n) ≡ n
 unfolding table

@@ -31,7 +31,7 @@ module _ (f g m : ℕ → ℕ → ℕ → ℕ) (lo hi : ℤ) (y : ℕ)
 
 module _ (h : Shade) (skip : Bool) (sdy : Float) (x y p : ℕ) where
   pub straight_out : in_columns (straight_from h.s h.blur) (straight_upto h.s h.blur) x ≡ false
-      → straight_ink h.s h.blur h.c sdy x y p ≡ straight_row_ink h skip sdy x y p
+      → straight_ink h sdy x y p ≡ straight_row_ink h skip sdy x y p
   unfolding straight_ink straight_row_ink straight_alpha
   straight_out e = rw e
 
@@ -41,7 +41,7 @@ module _ (h : Shade) (skip : Bool) (sdy : Float) (x y p : ℕ) where
   straight_in e = rw e
 
 module _ (h : Shade) (qy : Float) (x y p : ℕ) where
-  pub corner_out : in_columns (corner_from h.s) (corner_upto h.s) x ≡ false → corner_ink h.s h.blur h.c qy x y p ≡ corner_row_ink h qy x y p
+  pub corner_out : in_columns (corner_from h.s) (corner_upto h.s) x ≡ false → corner_ink h qy x y p ≡ corner_row_ink h qy x y p
   unfolding corner_ink corner_row_ink corner_alpha
   corner_out e = rw e
 

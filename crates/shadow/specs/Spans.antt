@@ -1,32 +1,22 @@
--- What the loops of a row do: the alpha read from the table of levels, and the ink of each part of a row. No call of the library
--- cites this file.
-use Rattle.std.specs.Prelude.{Bool, true, cond, ◌≡◌, List, ℕ, ◌+◌, ◌-◌, get_or, T, Float}
-use Rattle.std.specs.Float.{binary32}
-use Rattle.std.specs.Float.Ieee.{fits}
-use Rattle.mathf.specs.F32.{◌-ᶠ◌, ◌*ᶠ◌, ◌/ᶠ◌, ◌≤ᶠ◌, f0, f2, f96}
-use Rattle.mathf.specs.Root.{sqrt_of}
-use Rattle.mathf.specs.Convert.{to_usize}
+-- What is drawn of a row: the ink of each part. No call of the library cites this file.
+use Rattle.std.specs.Prelude.{Bool, ℕ, ◌+◌, Float}
+use Rattle.mathf.specs.F32.{◌-ᶠ◌}
 use Rattle.mathf.specs.Order.{fabs_of}
 use Rattle.color.specs.declared.Color.{Color}
 use Rattle.color.specs.Inks.{over}
-use Rattle.paints.specs.declared.Rounded.{Rounded}
 use Rattle.paints.specs.Paints.{centre_of}
 use Rattle.shadow.specs.declared.Shade.{Shade}
-use Rattle.shadow.specs.Shadow.{level_of, table, alpha_of, straight_side, corner_side, straight_alpha, corner_alpha}
-
--- the alpha at t levels out, from the table
-unfoldable pub table_alpha : List ℕ → Float → ℕ
-table_alpha lut t = cond (t ≤ᶠ f0) (get_or lut 0 0) (cond (f96 ≤ᶠ t) 0 (get_or lut (to_usize t) 0))
+use Rattle.shadow.specs.Shadow.{alpha_of, straight_side, corner_side, straight_alpha, corner_alpha}
 
 -- one alpha for a whole part; and beside the middle, in a straight row and in any other
 unfoldable pub flat_ink : Color → ℕ → ℕ → ℕ → ℕ → ℕ
 flat_ink c v x y p = over p c v
 
-unfoldable pub straight_ink : Rounded → Float → Color → Float → ℕ → ℕ → ℕ → ℕ
-straight_ink s blur c sdy x y p = over p c (straight_side s c.a blur sdy (centre_of x))
+unfoldable pub straight_ink : Shade → Float → ℕ → ℕ → ℕ → ℕ
+straight_ink h sdy x y p = over p h.c (straight_side h.s h.c.a h.blur sdy (centre_of x))
 
-unfoldable pub corner_ink : Rounded → Float → Color → Float → ℕ → ℕ → ℕ → ℕ
-corner_ink s blur c qy x y p = over p c (corner_side s c.a blur qy (centre_of x))
+unfoldable pub corner_ink : Shade → Float → ℕ → ℕ → ℕ → ℕ
+corner_ink h qy x y p = over p h.c (corner_side h.s h.c.a h.blur qy (centre_of x))
 
 -- the alpha of a column by its own distance, and, in a row that is not straight, that of the column k past x0
 unfoldable pub column_alpha : Shade → ℕ → ℕ
@@ -34,20 +24,6 @@ column_alpha h x = alpha_of h.c.a h.blur (fabs_of (centre_of x -ᶠ h.s.cx) -ᶠ
 
 unfoldable pub side_alpha : Shade → Float → ℕ → ℕ → ℕ
 side_alpha h qy x0 k = corner_side h.s h.c.a h.blur qy (centre_of (x0 + k))
-
--- each column at its alpha, of which x0 has the first
-unfoldable pub each_ink : Color → ℕ → List ℕ → ℕ → ℕ → ℕ → ℕ
-each_ink c x0 alphas x y p = over p c (get_or alphas (x - x0) 0)
-
--- from the squared distance k of the centre of a corner on, there is no shadow
-unfoldable pub Faded : Float → Float → Float → Type 0
-Faded r blur k = (a : ℕ) (d : Float) → T (fits binary32 d) → (k ≤ᶠ d) ≡ true → alpha_of a blur (sqrt_of d -ᶠ r) ≡ 0
-
--- the table is the colour's, the scale the blur's, and `far` such a distance
-pub record Table (h : Shade) (lut : List ℕ) : Type 0 where
-  pub levels : lut ≡ table (level_of h.c.a) 97
-  pub scaled : h.scale ≡ f96 /ᶠ (f2 *ᶠ h.blur)
-  pub faded : Faded h.s.r h.blur h.far
 
 -- a straight row, and any other
 unfoldable pub straight_row_ink : Shade → Bool → Float → ℕ → ℕ → ℕ → ℕ

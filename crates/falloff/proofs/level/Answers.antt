@@ -4,6 +4,3 @@ use Rattle.falloff.proofs.level.Goals as goal
 
 pub float_from_bits-bits : goal.float_from_bits-bits
 float_from_bits-bits c = from_no_nan _ c.requires
-
-pub returns : goal.returns
-returns c = c.to_u32.ensures

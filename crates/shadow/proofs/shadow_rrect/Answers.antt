@@ -1,6 +1,5 @@
 -- `shadow::shadow_rrect` meets its contract. Assumes nothing.
 use mathlib.Core.Path.{◌≡◌, ◌∙◌, sym}
-use native.Mathlib.Omega.{arith}
 use lib.ListN.{length}
 use Rattle.draw.proofs.Loops.{drew_as}
 use Rattle.draw.proofs.Clips.{drawn_clip}
@@ -25,10 +24,7 @@ pub shade_area-steps-requires : goal.shade_area-steps-requires
 shade_area-steps-requires c =
     rw c.clipped-b.ensures (canvas_fits _ _ _ (shape_open _ _ _ (sym (number (goal.at.shade_area-steps-requires c).After-shape_number-number) ∙ c.if-number-ne0.false)))
 
-pub overflow_cast-steps : goal.overflow_cast-steps
-overflow_cast-steps c = omega (arith, c.shade_area-steps.ensures.few)
-
 pub returns : goal.returns
 returns c =
-    let e = rw (c.clipped-b.ensures, c.shadow_reach.ensures) at c.shade_area-steps.ensures in
+    let e = rw (c.clipped-b.ensures, c.shadow_reach.ensures, c.of.ensures) at c.shade_area-steps.ensures in
     accepted_shape (number (goal.at.returns c).After-shape_number-number) c.if-number-ne0.false (drew_as e (sym (drawn_clip _ _ _ _ _)))

@@ -1,6 +1,6 @@
 -- `shadow::table_alpha` meets its contract. Assumes nothing.
 use native.Mathlib.Omega.{arith}
-use Rattle.shadow.specs.Spans.{table_alpha}
+use Rattle.shadow.specs.Levels.{table_alpha}
 use Rattle.shadow.proofs.Levels.{below_96}
 use Rattle.shadow.proofs.table_alpha.Goals as goal
 
