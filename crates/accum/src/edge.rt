@@ -1,5 +1,5 @@
 // One edge of a polygon, row by row: the Rust's `accum_line`.
-ghost use Rattle.std.specs.Prelude.{◌≡◌, cond, ◌+◌, ◌-◌, ◌*◌, ◌≤◌, min, length};
+ghost use Rattle.std.specs.Prelude.{◌≡◌, cond, ◌+◌, ◌-◌, ◌*◌, ◌≤◌, length};
 ghost use Rattle.mathf.specs.F32.{◌<ᶠ◌};
 ghost use Rattle.accum.specs.Lines.{row_between, row_height, row_next, edge_row, edge_rows, start_x, edge_down, edge_of, first_row};
 ghost use Rattle.accum.specs.Lines.{end_row, line_accum};
@@ -18,22 +18,11 @@ pub struct Edge {
     pub dir: f32,
 }
 
-fn least(a: usize, b: usize) -> usize
-    ensures { result ≡ min a b }
+// Two floats, the second first where it is not above the first.
+fn ordered(x: f32, y: f32) -> (f32, f32)
+    ensures { (result.0 ≡ cond (x <ᶠ y) x y) × (result.1 ≡ cond (x <ᶠ y) y x) }
 {
-    if a <= b { a } else { b }
-}
-
-fn lower(x: f32, y: f32) -> f32
-    ensures { result ≡ cond (x <ᶠ y) x y }
-{
-    if x < y { x } else { y }
-}
-
-fn upper(x: f32, y: f32) -> f32
-    ensures { result ≡ cond (x <ᶠ y) y x }
-{
-    if x < y { y } else { x }
+    if x < y { (x, y) } else { (y, x) }
 }
 
 // Row y, which an edge enters at x and leaves at xnext.
@@ -42,16 +31,14 @@ fn row_between(a: &mut [f32], bw: usize, y: usize, x: f32, xnext: f32, d: f32)
     ensures { a.new ≡ row_between a.old bw y x xnext d }
 {
     let maxx = f32_of(bw);
-    let xa = mathf::clamp(lower(x, xnext), 0.0, maxx);
-    let xb = mathf::clamp(upper(x, xnext), 0.0, maxx);
-    let x0f = mathf::floor(xa);
-    let x1c = mathf::ceil(xb);
-    let x0i = mathf::to_usize(x0f);
-    let x1i = mathf::to_usize(x1c);
-    row_accum(a, y * (bw + 2), d, xa, xb, x0f, x1c, x0i, x1i);
+    let (left, right) = ordered(x, xnext);
+    let xa = mathf::clamp(left, 0.0, maxx);
+    let xb = mathf::clamp(right, 0.0, maxx);
+    row_accum(a, y * (bw + 2), d, xa, xb);
 }
 
 // How much of row y the edge crosses.
+#[tactic(auto, unfolding(crate::specs::Lines::row_height))]
 fn row_height(e: Edge, y: usize) -> f32
     requires { y ≤ 16386 }
     ensures { result ≡ row_height e y }
@@ -60,6 +47,7 @@ fn row_height(e: Edge, y: usize) -> f32
 }
 
 // Row y of the edge, which enters it at x. Returns where it leaves.
+#[tactic(auto, unfolding(crate::specs::Lines::row_next, crate::specs::Lines::edge_row))]
 fn edge_row(a: &mut [f32], bw: usize, e: Edge, y: usize, x: f32) -> f32
     requires { (bw ≤ 16386) × (y ≤ 16386) × (y * (bw + 2) + (bw + 2) ≤ length a.old) }
     ensures { (result ≡ row_next e y x) × (a.new ≡ edge_row a.old bw e y x) }
@@ -82,15 +70,15 @@ fn edge_rows(a: &mut [f32], bw: usize, bh: usize, e: Edge, from: usize, to: usiz
 }
 
 // Where an edge down from p0 is where its first row begins: above row 0 it is cut off.
+#[tactic(auto, unfolding(crate::specs::Lines::start_x))]
 fn start_x(p0: Pt, dxdy: f32) -> f32
     ensures { result ≡ start_x p0 dxdy }
 {
-    let x = p0.x;
-    let y = p0.y;
-    if y < 0.0 { x - y * dxdy } else { x }
+    if p0.y < 0.0 { p0.x - p0.y * dxdy } else { p0.x }
 }
 
 // The edge from p0 down to p1.
+#[tactic(auto, unfolding(crate::specs::Lines::edge_down))]
 fn edge_down(dir: f32, p0: Pt, p1: Pt) -> Edge
     ensures { result ≡ edge_down dir p0 p1 }
 {
@@ -105,6 +93,7 @@ fn edge_down(dir: f32, p0: Pt, p1: Pt) -> Edge
 }
 
 // The edge between two points, turned downwards.
+#[tactic(auto, unfolding(crate::specs::Lines::edge_of))]
 fn edge_of(p0: Pt, p1: Pt) -> Edge
     ensures { result ≡ edge_of p0 p1 }
 {
@@ -115,6 +104,7 @@ fn edge_of(p0: Pt, p1: Pt) -> Edge
     }
 }
 
+#[tactic(auto, unfolding(crate::specs::Lines::first_row))]
 fn first_row(e: Edge) -> usize
     ensures { result ≡ first_row e }
 {
@@ -126,13 +116,15 @@ fn first_row(e: Edge) -> usize
 }
 
 // The row past the edge's last.
+#[tactic(auto, unfolding(crate::specs::Lines::end_row))]
 fn end_row(e: Edge, bh: usize) -> usize
     ensures { (result ≡ end_row e bh) × (result ≤ bh) }
 {
-    least(bh, mathf::to_usize(mathf::ceil(e.bottom)))
+    bh.min(mathf::to_usize(mathf::ceil(e.bottom)))
 }
 
 // Signed-area accumulation of one edge, in a box of bw by bh.
+#[tactic(auto, unfolding(crate::specs::Lines::line_accum))]
 pub fn accum_line(a: &mut [f32], bw: usize, bh: usize, p0: Pt, p1: Pt)
     requires { Room bw bh (length a.old) }
     ensures { a.new ≡ line_accum a.old bw bh p0 p1 }

@@ -57,18 +57,16 @@ fn widen(e: Extent, p: Pt) -> Extent
 }
 
 fn extent_of(pts: &[f32]) -> Extent
-    requires { length pts.now ≤ 128 }
     ensures { result ≡ extent_of pts.now (point_count pts.now) }
 {
-    let n = pts.len() / 2;
     let mut e = Extent {
-        minx: 340282350000000000000000000000000000000.0,
-        miny: 340282350000000000000000000000000000000.0,
-        maxx: -340282350000000000000000000000000000000.0,
-        maxy: -340282350000000000000000000000000000000.0,
+        minx: f32::MAX,
+        miny: f32::MAX,
+        maxx: f32::MIN,
+        maxy: f32::MIN,
     };
-    for i in 0..n {
-        e = widen(e, point_at(pts, i));
+    for p in pts.chunks_exact(2) {
+        e = widen(e, Pt { x: p[0], y: p[1] });
     }
     e
 }
@@ -76,7 +74,8 @@ fn extent_of(pts: &[f32]) -> Extent
 // ox or oy.
 fn origin(least: f32) -> i32
     requires { nat_abs (to_i32 (floor_of least)) ≤ 8192 }
-    ensures { result ≡ origin_of least }
+    ensures value { result ≡ origin_of least }
+    ensures near { nat_abs result ≤ 8193 }
 {
     mathf::to_i32(mathf::floor(least)) - 1
 }
@@ -91,7 +90,8 @@ fn span(most: f32, origin: i32) -> usize
 
 pub(crate) fn poly_box(pts: &[f32]) -> PolyBox
     requires { Ranged pts.now }
-    ensures { result ≡ poly_box pts.now }
+    ensures value { result ≡ poly_box pts.now }
+    ensures near { Near result }
 {
     let e = extent_of(pts);
     let ox = origin(e.minx);
@@ -105,12 +105,11 @@ pub fn reach_of(g: PolyBox) -> IRect
     requires { Near g }
     ensures { result ≡ reach_of g }
 {
-    let ox = g.ox;
-    let oy = g.oy;
-    IRect::new(ox, oy, ox + g.bw as i32, oy + g.bh as i32)
+    IRect::new(g.ox, g.oy, g.ox + g.bw as i32, g.oy + g.bh as i32)
 }
 
 // The box and the need of what is painted.
+#[tactic(auto, using(crate::proofs::Needs::box_cells, crate::proofs::Needs::box_words))]
 pub fn plan_of(pts: &[f32]) -> Plan
     requires { (length pts.now ≤ 128) × (coords_ok pts.now ≡ true) }
     ensures { result ≡ plan_of pts.now }
@@ -126,8 +125,7 @@ pub fn plan_of(pts: &[f32]) -> Plan
         return none;
     }
     let g = poly_box(pts);
-    let bw = g.bw;
-    let bh = g.bh;
+    let PolyBox { bw, bh, .. } = g;
     if bw * bh > 4000000 {
         return none;
     }

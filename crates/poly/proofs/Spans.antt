@@ -16,7 +16,8 @@ use Rattle.geom.proofs.Bools.{split}
 use Rattle.geom.proofs.Int.{order_z}
 use Rattle.geom.proofs.Boxes.{cut_in}
 use Rattle.color.specs.Inks.{over_c}
-use Rattle.color.proofs.Overs.{over_c_none}
+use Rattle.color.proofs.Overs.{over_c_idle}
+use Rattle.color.specs.declared.Color.{Color}
 use Rattle.draw.specs.Areas.{area, area_of, clip_to}
 use Rattle.draw.specs.declared.Area.{Area}
 use Rattle.paints.specs.Paints.{paint_at, centre_of}
@@ -25,7 +26,7 @@ use Rattle.bounds.specs.Bounds.{reach_of}
 use Rattle.bounds.proofs.Parts.{one_sided, sum_parts, difference_parts}
 use Rattle.bounds.specs.declared.PolyBox.{PolyBox}
 use Rattle.poly.specs.Poly.{offset_of, run_sum, cover_of, ink_in, area_at}
-use Rattle.poly.specs.Rooms.{Over, ink_from}
+use Rattle.poly.specs.Rooms.{Over, colour_in, ink_from}
 use Rattle.poly.proofs.Turns.{run_sum_more}
 
 -- ---- where a column lies in the box
@@ -75,17 +76,21 @@ pub turn_sum : (acc : List Float) (ls skip x0 x : ℕ) (a : Float) → a ≡ run
     → a +ᶠ get_or acc (ls + (skip + (x - x0))) nan ≡ run_sum acc ls (skip + (x - x0) + 1)
 turn_sum acc ls skip x0 x a e = ap (λ (t : Float). t +ᶠ get_or acc (ls + (skip + (x - x0))) nan) e ∙ sym (run_sum_more acc ls (skip + (x - x0)))
 
-module _ (acc : List Float) (ls skip x0 : ℕ) (paint : Paint) (x y p : ℕ) {a : Float} {cv : ℕ} (s : a ≡ run_sum acc ls (skip + (x - x0) + 1)) (e : cv ≡ cover_of a) where
-  pub ink_by : over_c p (paint_at paint (centre_of x) (centre_of y)) cv ≡ ink_from acc ls skip x0 paint x y p
-  unfolding ink_from
-  ink_by = ap (λ (k : ℕ). over_c p (paint_at paint (centre_of x) (centre_of y)) k) (e ∙ ap cover_of s)
+-- and is at the next column
+pub turn_more : (acc : List Float) (ls skip x0 x : ℕ) → x0 ≤ x → run_sum acc ls (skip + (x - x0) + 1) ≡ run_sum acc ls (skip + (x + 1 - x0))
+turn_more acc ls skip x0 x l = let n : skip + (x - x0) + 1 ≡ skip + (x + 1 - x0) = omega arith in ap (run_sum acc ls) n
 
-  pub ink_none : cv ≡ 0 → p ≡ ink_from acc ls skip x0 paint x y p
-  ink_none z = sym (over_c_none p (paint_at paint (centre_of x) (centre_of y))) ∙ ap (λ (k : ℕ). over_c p (paint_at paint (centre_of x) (centre_of y)) k) (sym z) ∙ ink_by
+module _ (acc : List Float) (ls skip x0 : ℕ) (colour : ℕ → Color) (x y p : ℕ) {a : Float} {cv : ℕ} (s : a ≡ run_sum acc ls (skip + (x - x0) + 1)) (e : cv ≡ cover_of a) where
+  pub ink_by : over_c p (colour x) cv ≡ ink_from acc ls skip x0 colour x y p
+  unfolding ink_from
+  ink_by = ap (over_c p (colour x)) (e ∙ ap cover_of s)
+
+  pub ink_none : cv ≡ 0 → p ≡ ink_from acc ls skip x0 colour x y p
+  ink_none z = over_c_idle p (colour x) cv z ∙ ink_by
 
 -- the same by a paint that agrees in the row
 pub ink_in_lem : (acc : List Float) (g : PolyBox) (here paint : Paint) (x0 y x p : ℕ) → le_z g.ox (pos x0) ≡ true → x0 ≤ x
     → ((c : Float) → paint_at here c (centre_of y) ≡ paint_at paint c (centre_of y))
-    → ink_from acc (offset_of y g.oy * (g.bw + 2)) (offset_of x0 g.ox) x0 here x y p ≡ ink_in acc g paint x y p
+    → ink_from acc (offset_of y g.oy * (g.bw + 2)) (offset_of x0 g.ox) x0 (colour_in here y) x y p ≡ ink_in acc g paint x y p
 unfolding ink_from ink_in area_at
 ink_in_lem acc g here paint x0 y x p h l e = rw (offset_more g.ox x0 x h l, e (centre_of x))

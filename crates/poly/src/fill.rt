@@ -8,7 +8,7 @@ ghost use Rattle.bounds.specs.Bounds.{reach_of, need_of};
 ghost use Rattle.bounds.specs.Plans.{Near};
 ghost use Rattle.poly.specs.Poly.{poly_reach, poly_need, accumulated, ink_in, poly_ink, cleared};
 
-use crate::outline::{accumulate, clear};
+use crate::outline::accumulate;
 use crate::rows::draw_box;
 use bounds::{PolyBox, plan_of};
 use geom::IRect;
@@ -39,7 +39,7 @@ fn fill_part(
 {
     accumulate(acc, pts, g);
     let n = draw_box(px, acc, pitch, clip, g, paint);
-    clear(acc);
+    acc.fill(0.0);
     n
 }
 

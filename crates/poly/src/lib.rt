@@ -28,8 +28,7 @@ pub fn poly_need(pts: &[f32]) -> usize
     if !poly_ok(pts) {
         return 0;
     }
-    let plan = plan_of(pts);
-    plan.need
+    plan_of(pts).need
 }
 
 // The pixels around a polygon: four zeros for points that are not accepted, or where nothing is painted.
@@ -39,8 +38,7 @@ pub fn poly_reach(pts: &[f32]) -> IRect
     if !poly_ok(pts) {
         return IRect::new(0, 0, 0, 0);
     }
-    let plan = plan_of(pts);
-    reach_of(plan.g)
+    reach_of(plan_of(pts).g)
 }
 
 // Fills a polygon, whose points are coordinates x y x y, with a paint. The scratch words that it needs are left +0.

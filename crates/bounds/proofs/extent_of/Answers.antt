@@ -1,32 +1,23 @@
--- `bounds::extent_of` meets its contract. Assumes nothing.
-use mathlib.Core.Path.{refl, sym, ◌∙◌}
-use native.Mathlib.Nat.{le_antisymm}
-use native.Mathlib.Omega.{arith}
+-- `bounds::extent_of` meets its contract. The points so far are in the extent, and the others are left. Assumes nothing.
+use Rattle.std.proofs.Common.{rules, ◌≡◌, ◌+◌, ◌++◌, ◌∷◌, [], length, ◌∙◌, length-append}
+use lib.Ieee.{of_bits, neg}
 use Rattle.bounds.specs.Bounds.{extent_of}
-use Rattle.bounds.proofs.Turns.{extent_more}
+use Rattle.bounds.proofs.Turns.{extent_next, rest_next}
 use Rattle.bounds.proofs.extent_of.Goals as goal
 
-pub loop-i-init : goal.loop-i-init
-unfolding extent_of
-loop-i-init c = (omega arith, refl)
+pub loop-p-init : goal.loop-p-init
+unfolding extent_of of_bits neg
+loop-p-init c = search rules
 
-pub point_at-requires : goal.point_at-requires
-point_at-requires c = omega arith
-
-pub widen-e-requires : goal.widen-e-requires
-widen-e-requires c = tt
-
-pub overflow_step-i : goal.overflow_step-i
-overflow_step-i c = omega arith
-
-pub loop-i-smaller : goal.loop-i-smaller
-loop-i-smaller c = omega arith
-
-pub loop-i-preserved : goal.loop-i-preserved
-loop-i-preserved c =
-    let at = c.args in
-    (omega arith, c.widen-e.ensures ∙ rw (c.point_at.ensures, c.loop-i.invariant.1) (sym (extent_more at.pts.now c.loop-i.i)))
-
-pub returns : goal.returns
-returns c =
-    rw (le_antisymm c.loop-i.invariant.0 c.loop-i-test.false) at c.loop-i.invariant.1
+pub loop-p-preserved : goal.loop-p-preserved
+loop-p-preserved c =
+    let pts = c.args.pts.now in
+    let i = c.loop-p.invariant in
+    let n = length c.loop-p.yielded in
+    let s = c.in-Some.ensures.steps in
+    let more : length (c.loop-p.yielded ++ c.in-Some.p ∷ []) ≡ n + 1 = length-append _ _ in
+    rw more (
+      c.widen-e.ensures ∙ extent_next pts n _ _ _ i.2 s.1.0 (s.1.1 ∙ i.1) c.loop-p.e i.0,
+      s.0 ∙ i.1,
+      rest_next pts n _ _ _ i.2 s.1.0 (s.1.1 ∙ i.1),
+    )

@@ -1,11 +1,8 @@
--- `bounds::extent_of` meets its contract. Assumes nothing.
-use mathlib.Core.Path.{◌≡◌}
-use Prim.Native.Nat.{◌-◌, ◌≤◌}
+-- `bounds::extent_of` meets its contract. The points so far are in the extent, and the others are left. Assumes nothing.
+use Rattle.std.proofs.Common.{◌≡◌, ◌*◌, length, drop}
 use Rattle.bounds.specs.Bounds.{extent_of}
 use Rattle.bounds.proofs.extent_of.Given as goal
 
-abbrev pub invariant-loop-i : goal.invariant-loop-i
-invariant-loop-i l = (l.i ≤ l.n) × (l.e ≡ extent_of l.pts l.i)
-
-abbrev pub decreases-loop-i : goal.decreases-loop-i
-decreases-loop-i l = l.n - l.i
+abbrev pub invariant-loop-p : goal.invariant-loop-p
+invariant-loop-p l =
+    (l.e ≡ extent_of l.pts (length l.yielded)) × (l.p-iterator.size ≡ 2) × (l.p-iterator.rest.now ≡ drop (length l.yielded * 2) l.pts)

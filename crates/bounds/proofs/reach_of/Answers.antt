@@ -1,24 +1,10 @@
 -- `bounds::reach_of` meets its contract. Assumes nothing.
 use mathlib.Core.Path.{◌∙◌}
-use Prim.Native.Nat.{ℕ, ◌≤◌}
+use Prim.Native.Nat.{◌≤◌}
 use native.Mathlib.Omega.{arith}
-use lib.IntN.{ℤ, pos, nat_abs, ◌+ℤ◌}
-use mir.Syntax.{w32}
-use mir.Val.{SFits, to_z, of_z}
-use Rattle.bounds.proofs.Signs.{back, sum_small, sum_fits}
+use lib.IntN.{pos, nat_abs, ◌+ℤ◌}
+use Rattle.bounds.proofs.Signs.{back, sum_small}
 use Rattle.bounds.proofs.reach_of.Goals as goal
-
--- the far side of a box
-side : (o : ℤ) (n : ℕ) → nat_abs o ≤ 16386 → n ≤ 16386 → SFits w32 (to_z w32 (of_z w32 o) +ℤ to_z w32 n)
-side o n h k = rw (back o (omega arith), back (pos n) (omega arith)) (sum_fits o (pos n) h k)
-
-pub overflow_add-ox : goal.overflow_add-ox
-overflow_add-ox c =
-    side c.args.g.ox c.args.g.bw (omega (arith, c.requires.left)) c.requires.wide
-
-pub overflow_add-oy : goal.overflow_add-oy
-overflow_add-oy c =
-    side c.args.g.oy c.args.g.bh (omega (arith, c.requires.top)) c.requires.high
 
 pub returns : goal.returns
 returns c =

@@ -5,7 +5,7 @@ use native.Mathlib.Omega.{arith}
 use lib.IntN.{pos, nat_abs, ◌+ℤ◌, ◌-ℤ◌}
 use Rattle.mathf.proofs.Ints.{sum_size}
 use Rattle.bounds.specs.Bounds.{span_of}
-use Rattle.bounds.proofs.Signs.{back, sum_fits, difference_small, difference_fits}
+use Rattle.bounds.proofs.Signs.{back, difference_small}
 use Rattle.bounds.proofs.span.Goals.{After-to_i32}
 use Rattle.bounds.proofs.span.Goals as goal
 
@@ -14,19 +14,6 @@ whole : (c : After-to_i32) → (nat_abs c.to_i32.result ≤ 8192) × (nat_abs (c
 whole c =
     let h : nat_abs c.to_i32.result ≤ 8192 = rw (c.to_i32.ensures, c.ceil.ensures) c.requires.0 in
     (h, let s = sum_size c.to_i32.result (pos 1) in omega (arith, s))
-
-pub overflow_add-to_i32 : goal.overflow_add-to_i32
-overflow_add-to_i32 c =
-    let z = c.to_i32.result in
-    rw (back z (omega (arith, whole c))) (sum_fits z (pos 1) (omega (arith, whole c)) (omega arith))
-
-pub overflow_sub-to_i32 : goal.overflow_sub-to_i32
-overflow_sub-to_i32 c =
-    let z = c.to_i32.result in
-    let o = c.args.origin in
-    let k = c.requires.1 in
-    rw (back z (omega (arith, whole c)), back (z +ℤ pos 1) (omega (arith, whole c)), back o (omega (arith, k)))
-    (difference_fits (z +ℤ pos 1) o (omega (arith, whole c)) (omega (arith, k)))
 
 pub returns : goal.returns
 unfolding span_of

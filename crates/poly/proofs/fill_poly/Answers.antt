@@ -1,6 +1,5 @@
 -- `poly::fill_poly` meets its contract. Assumes nothing.
 use mathlib.Core.Path.{◌≡◌, sym, ◌∙◌}
-use native.Mathlib.Omega.{arith}
 use lib.ListN.{length}
 use Rattle.draw.proofs.Clips.{drawn_clip}
 use Rattle.draw.proofs.Loops.{drew_as}
@@ -34,9 +33,6 @@ fill_lent-lent-requires c =
     let at = c.args in
     let o = accepted (goal.at.fill_lent-lent-requires c).Else-number-ne0 in
     record { area_fits = canvas_fits at.canvas (length at.px.now) (poly_reach at.pts.now) o.canvas; pts_len_bound = (points_few at.pts.now o.points, o.coords) }
-
-pub overflow_cast-steps : goal.overflow_cast-steps
-overflow_cast-steps c = omega (arith, c.fill_lent-lent.ensures.drew.few)
 
 pub returns : goal.returns
 returns c =

@@ -15,8 +15,8 @@ unfolding no_box
 returns-then-not-poly_ok c =
     c.new.ensures ∙ reach_out c.args.pts.now (sym c.poly_ok.ensures ∙ c.if-not-poly_ok.true)
 
-pub plan_of-plan-requires : goal.plan_of-plan-requires
-plan_of-plan-requires c =
+pub plan_of-requires : goal.plan_of-requires
+plan_of-requires c =
     let pts = c.args.pts.now in
     (few_in pts (accepted c), coords_in pts (accepted c))
 
@@ -24,9 +24,9 @@ pub reach_of-requires : goal.reach_of-requires
 reach_of-requires c =
     let pts = c.args.pts.now in
     let h = accepted (goal.at.reach_of-requires c).Else-not-poly_ok in
-    rw c.plan_of-plan.ensures (plan_near pts (few_in pts h) (coords_in pts h))
+    rw c.plan_of.ensures (plan_near pts (few_in pts h) (coords_in pts h))
 
 pub returns : goal.returns
 returns c =
     let pts = c.args.pts.now in
-    c.reach_of.ensures ∙ rw c.plan_of-plan.ensures (plan_reach pts ∙ sym (reach_in_lem pts (accepted (goal.at.returns c).Else-not-poly_ok)))
+    c.reach_of.ensures ∙ rw c.plan_of.ensures (plan_reach pts ∙ sym (reach_in_lem pts (accepted (goal.at.returns c).Else-not-poly_ok)))

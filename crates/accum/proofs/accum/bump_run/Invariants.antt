@@ -1,12 +1,7 @@
--- `accum::accum::bump_run` meets its contract. The words from i up to k have had v added. Assumes nothing.
-use mathlib.Core.Path.{◌≡◌}
-use Prim.Native.Nat.{◌-◌, ◌≤◌}
-use lib.ListN.{length}
+-- `accum::accum::bump_run` meets its contract. The words before w have had v added. Assumes nothing.
+use Rattle.std.proofs.Common.{◌≡◌, ◌-◌, take, drop}
 use Rattle.accum.specs.Accum.{bump_run}
 use Rattle.accum.proofs.accum.bump_run.Given as goal
 
-abbrev pub invariant-loop-k : goal.invariant-loop-k
-invariant-loop-k l = (l.i ≤ l.k) × (l.k ≤ l.e) × (l.a ≡ bump_run l.initial.a l.i (l.k - l.i) l.v) × (length l.a ≡ length l.initial.a)
-
-abbrev pub decreases-loop-k : goal.decreases-loop-k
-decreases-loop-k l = l.e - l.k
+abbrev pub invariant-loop-w : goal.invariant-loop-w
+invariant-loop-w l = l.w-items ≡ bump_run (take (l.e - l.i) (drop l.i l.fn.a)) 0 l.w-index l.v

@@ -9,6 +9,3 @@ use Rattle.accum.proofs.edge.edge_rows.Given as goal
 abbrev pub invariant-loop-y : goal.invariant-loop-y
 invariant-loop-y l =
     (l.from ≤ l.y) × (l.y ≤ l.from + (l.to - l.from)) × (length l.a ≡ length l.initial.a) × (l.x ≡ edge_x l.e l.from (l.y - l.from)) × (l.a ≡ edge_rows l.initial.a l.bw l.e l.from (l.y - l.from))
-
-abbrev pub decreases-loop-y : goal.decreases-loop-y
-decreases-loop-y l = l.to - l.y

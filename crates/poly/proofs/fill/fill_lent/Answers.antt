@@ -46,9 +46,6 @@ returns-then-n-eq0 c =
     rw (le-leb (poly_need at.pts.now) (length at.scratch.now) (enough (goal.at.returns-then-n-eq0 c).Else-scratch-n))
     record { number_value = refl; drew = drew_none (nothing_drawn at.pts.now e at.pitch at.clip (poly_ink at.pts.now at.paint) at.px.now); scratch_after = nothing_cleared at.pts.now e at.scratch.now }
 
-pub slice_bounds-fill_part-end-2 : goal.slice_bounds-fill_part-end-2
-slice_bounds-fill_part-end-2 c = sym (length-take-le _ _ c.if-scratch-n.false)
-
 pub fill_part-steps-requires : goal.fill_part-steps-requires
 fill_part-steps-requires c =
     let pts = c.args.pts.now in

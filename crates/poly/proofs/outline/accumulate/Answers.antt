@@ -6,4 +6,4 @@ use Rattle.poly.proofs.outline.accumulate.Goals as goal
 pub returns : goal.returns
 unfolding accumulated
 returns c =
-    c.edges.ensures ∙ rw (c.clear.ensures, c.requires.1)
+    c.edges.ensures ∙ rw (c.fill.ensures.after (λ y e. e), c.requires.1)

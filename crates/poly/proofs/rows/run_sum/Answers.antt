@@ -1,35 +1,28 @@
--- `poly::rows::run_sum` meets its contract. The first k words are in the sum. Assumes nothing.
-use mathlib.Core.Path.{refl, sym}
-use native.Mathlib.Nat.{le_antisymm}
-use native.Mathlib.Omega.{arith}
+-- `poly::rows::run_sum` meets its contract. The words before v are in the sum. Assumes nothing.
+use Rattle.std.proofs.Common.{◌≡◌, ℕ, ◌+◌, ◌-◌, ◌<◌, ◌≤◌, List, length, get_or, take, drop, refl, sym, ◌∙◌, arith, length-drop}
+use lib.Seq.{length-take-le}
+use lib.Ieee.{Float, nan}
+use Rattle.std.proofs.lemmas.List.{get_or-take, get_or-drop}
 use Rattle.poly.specs.Poly.{run_sum}
 use Rattle.poly.proofs.Turns.{run_sum_more}
 use Rattle.poly.proofs.rows.run_sum.Goals as goal
 
-pub loop-k-init : goal.loop-k-init
+-- the n words from i, as a slice
+module _ (acc : List Float) (i n : ℕ) (h : i + n ≤ length acc) where
+  words_length : length (take (i + n - i) (drop i acc)) ≡ n
+  words_length =
+      let l : i + n - i ≤ length (drop i acc) = omega (arith, length-drop i acc) in
+      length-take-le _ _ l ∙ omega arith
+
+  word : (k : ℕ) → k < length (take (i + n - i) (drop i acc)) → get_or (take (i + n - i) (drop i acc)) k nan ≡ get_or acc (i + k) nan
+  word k l = get_or-take (i + n - i) (drop i acc) k nan (omega (arith, words_length)) ∙ get_or-drop i acc k nan
+
+pub loop-v-init : goal.loop-v-init
 unfolding run_sum
-loop-k-init c = (omega arith, refl)
+loop-v-init c = refl
 
-pub overflow_add-a : goal.overflow_add-a
-overflow_add-a c = omega arith
-
-pub offset_bounds-acc-i : goal.offset_bounds-acc-i
-offset_bounds-acc-i c = omega arith
-
-pub bounds-acc-i : goal.bounds-acc-i
-bounds-acc-i c = omega arith
-
-pub overflow_step-k : goal.overflow_step-k
-overflow_step-k c = omega arith
-
-pub loop-k-smaller : goal.loop-k-smaller
-loop-k-smaller c = omega arith
-
-pub loop-k-preserved : goal.loop-k-preserved
-loop-k-preserved c =
+pub loop-v-preserved : goal.loop-v-preserved
+loop-v-preserved c =
     let at = c.args in
-    (omega arith, rw c.loop-k.invariant.1 (sym (run_sum_more at.acc.now at.i c.loop-k.k)))
-
-pub returns : goal.returns
-returns c =
-    rw (le_antisymm c.loop-k.invariant.0 c.loop-k-test.false) at c.loop-k.invariant.1
+    let k = c.loop-v.v-index in
+    rw (c.loop-v.invariant, word at.acc.now at.i at.n c.requires k c.loop-v-test.true) (sym (run_sum_more at.acc.now at.i k))

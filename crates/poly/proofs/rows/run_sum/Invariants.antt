@@ -1,11 +1,7 @@
--- `poly::rows::run_sum` meets its contract. The first k words are in the sum. Assumes nothing.
-use mathlib.Core.Path.{◌≡◌}
-use Prim.Native.Nat.{◌-◌, ◌≤◌}
+-- `poly::rows::run_sum` meets its contract. The words before v are in the sum. Assumes nothing.
+use Rattle.std.proofs.Common.{◌≡◌}
 use Rattle.poly.specs.Poly.{run_sum}
 use Rattle.poly.proofs.rows.run_sum.Given as goal
 
-abbrev pub invariant-loop-k : goal.invariant-loop-k
-invariant-loop-k l = (l.k ≤ l.n) × (l.a ≡ run_sum l.acc l.i l.k)
-
-abbrev pub decreases-loop-k : goal.decreases-loop-k
-decreases-loop-k l = l.n - l.k
+abbrev pub invariant-loop-v : goal.invariant-loop-v
+invariant-loop-v l = l.a ≡ run_sum l.acc l.i l.v-index

@@ -1,8 +1,0 @@
--- `accum::edge::lower` meets its contract. Assumes nothing.
-use Rattle.accum.proofs.edge.lower.Goals as goal
-
-pub returns-then-x-y : goal.returns-then-x-y
-returns-then-x-y c = simp c.if-x-y.true
-
-pub returns-else-x-y : goal.returns-else-x-y
-returns-else-x-y c = simp c.if-x-y.false
