@@ -96,13 +96,6 @@ pub fn check_frame(w: usize, h: usize, pitch: usize, n: usize) -> Result<(), Ref
     ensure(n == pitch * h, Refusal::Pixels)
 }
 
-// The number of `check_pitch`, 0 where it passes.
-pub fn pitch_number(w: usize, pitch: usize) -> u32
-    ensures { result ≡ pitch_number w pitch }
-{
-    number(check_pitch(w, pitch))
-}
-
 // The number of `check_frame`, 0 where it passes.
 pub fn frame_number(w: usize, h: usize, pitch: usize, n: usize) -> u32
     requires { h ≤ 65535 }

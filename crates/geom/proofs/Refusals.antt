@@ -5,11 +5,36 @@ use Prim.Native.Nat.{ℕ, suc}
 use native.Mathlib.Omega.{arith}
 use borrow.Author.Tests.{eq-eqb, ne_eqb, eqb-true, eqb-false}
 use lib.Dec.{eqb}
-use Rattle.geom.specs.Refusals.{unless, and_then}
+use Rattle.geom.specs.Refusals.{code, unless, and_then}
+use Rattle.geom.specs.declared.checks.Refusal.{Refusal}
+use Rattle.geom.specs.declared.checks.Refusal.TheVariants.{SheetLength, Header, Pairs, Kind, ZeroByte, Float, Clips, Pixels, Scratch, Difference, Ink, State, Points, Many, Pitch, Buffer, Command, FlagWrite, NotReady, Order}
 
 -- a number other than 0 is not 0
 never : {n : ℕ} → suc n ≡ 0 → ⊥
 never e = omega arith
+
+-- nor is that of a refusal
+pub code_some : (r : Refusal) → eqb (code r) 0 ≡ false
+code_some SheetLength = refl
+code_some Header = refl
+code_some Pairs = refl
+code_some Kind = refl
+code_some ZeroByte = refl
+code_some Float = refl
+code_some Clips = refl
+code_some Pixels = refl
+code_some Scratch = refl
+code_some Difference = refl
+code_some Ink = refl
+code_some State = refl
+code_some Points = refl
+code_some Many = refl
+code_some Pitch = refl
+code_some Buffer = refl
+code_some Command = refl
+code_some FlagWrite = refl
+code_some NotReady = refl
+code_some Order = refl
 
 -- a test before a number that is 0 held, and so does what follows
 pub passed : (t : Bool) (n rest : ℕ) → unless t (suc n) rest ≡ 0 → (t ≡ true) × (rest ≡ 0)

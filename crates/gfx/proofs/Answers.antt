@@ -1,12 +1,19 @@
 -- What a call returns that tests its number and returns early: for its contract, by whether the number is 0. m is the number as the code has
 -- it, n its definition. Assumes nothing.
-use mathlib.Core.Path.{◌≡◌, ap, ◌∙◌}
+use mathlib.Core.Path.{◌≡◌, refl, ap, ◌∙◌}
 use mathlib.Core.Bool.{cond}
 use mathlib.Core.List.{List}
 use Prim.Native.Nat.{ℕ}
 use lib.Dec.{eqb}
 use borrow.Author.Tests.{eq-eqb, ne_eqb}
-use Rattle.gfx.specs.Calls.{answer, left, Called, CalledCounted, ShapeCalled, box_answer, pixel_answer}
+use Rattle.std.proofs.Common.{Ok, Err}
+use Rattle.std.specs.Bool.{⊤}
+use Rattle.std.specs.declared.result.Result.{Result}
+use Rattle.std.specs.Result.{IsErrAnd, result_and}
+use Rattle.geom.specs.declared.checks.Refusal.{Refusal}
+use Rattle.geom.specs.Refusals.{code, number_of}
+use Rattle.geom.proofs.Refusals.{code_some}
+use Rattle.gfx.specs.Calls.{done_of, counted_of, boxed_of, pixel_of, answer, left, Called, CalledCounted, ShapeCalled, box_answer, pixel_answer}
 use Rattle.gfx.specs.declared.Canvas.{Canvas}
 use Rattle.gfx.specs.declared.Done.{Done}
 use Rattle.gfx.specs.declared.Boxed.{Boxed}
@@ -25,6 +32,59 @@ pixel_is e f = rw (e, f)
 
 box_is : {m n : ℕ} {a b : IRect} → m ≡ n → a ≡ b → ◌≡◌ {A = Boxed} (record { number = m; area = a }) (record { number = n; area = b })
 box_is e f = rw (e, f)
+
+-- ---- a call whose answer is made of a result
+
+-- a number that is a refusal's: what is given stays
+kept_by : {n : ℕ} (x : Refusal) {A : Type 0} (next given : A) → code x ≡ n → given ≡ cond (eqb n 0) next given
+kept_by x next given e = rw (← e, code_some x)
+
+-- a `?` left with the refusal x
+module _ (x : Refusal) {n : ℕ} (e : code x ≡ n) where
+  pub stopped_state : (given next : Canvas) (r : Result Canvas Refusal) → IsErrAnd r (λ y. y ≡ x) → done_of given r ≡ answer n given next
+  unfolding answer
+  stopped_state given next (Err y) p = rw p (done_is e (kept_by x next given e))
+  stopped_state given next (Ok c) p = absurd p
+
+  pub stopped_call : {given next : Canvas} {px drawn : List ℕ} (r : Result Canvas Refusal) → IsErrAnd r (λ y. y ≡ x)
+      → Called n given next px drawn (done_of given r) px
+  unfolding left
+  stopped_call {given} {next} {px} {drawn} r p = record { answers = stopped_state given next r p; paints = kept_by x drawn px e }
+
+  pub stopped_pixel : (v : ℕ) (r : Result ℕ Refusal) → IsErrAnd r (λ y. y ≡ x) → pixel_of r ≡ pixel_answer n v
+  unfolding pixel_answer
+  stopped_pixel v (Err y) p = rw p (pixel_is e (kept_by x v 0 e))
+  stopped_pixel v (Ok w) p = absurd p
+
+  pub stopped_shape : {c : Canvas} {px drawn : List ℕ} {count : ℕ} (r : Result ℕ Refusal) → IsErrAnd r (λ y. y ≡ x)
+      → CalledCounted n c px drawn count (counted_of c r) px
+  unfolding left answer
+  stopped_shape {c} {px} {drawn} {count} (Err y) p =
+      rw p (record { called = record { answers = done_is e (kept_by x c c e); paints = kept_by x drawn px e }; counts = kept_by x count 0 e })
+  stopped_shape (Ok k) p = absurd p
+
+-- the number of the tests that passed
+module _ {n : ℕ} (z : 0 ≡ n) where
+  pub done_call : {given next : Canvas} {px drawn : List ℕ} → Called n given next px drawn (done_of given (Ok next)) drawn
+  unfolding left answer
+  done_call = rw (← z) (record { answers = refl; paints = refl })
+
+  pub done_counted : {c : Canvas} {px drawn px' : List ℕ} {count k : ℕ} → px' ≡ drawn → k ≡ count
+      → CalledCounted n c px drawn count (counted_of c (Ok k)) px'
+  unfolding left answer
+  done_counted p q = rw (← z, p, q) (record { called = record { answers = refl; paints = refl }; counts = refl })
+
+  pub done_shape : {c : Canvas} {px drawn px' : List ℕ} {most k : ℕ} → Drew most px drawn k px'
+      → ShapeCalled n c px drawn (counted_of c (Ok k)) px'
+  done_shape {px = px} d = done_counted d.paints (d.counts ∙ ap (differ px) d.paints)
+
+-- a box that is given where the tests pass
+pub told_box : {n : ℕ} (b : IRect) (t : Result ⊤ Refusal) → number_of t ≡ n → boxed_of (result_and t (Ok b)) ≡ box_answer n b
+unfolding box_answer
+told_box b (Ok u) e = rw (← e)
+told_box b (Err x) e = box_is e (kept_by x b no_box e)
+
+-- ---- a call that tests its number
 
 module _ {n m : ℕ} (e : m ≡ n) where
   module _ (k : m ≡ 0 → ⊥) where

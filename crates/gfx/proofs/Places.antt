@@ -1,14 +1,38 @@
 -- The test of the saved clips, place by place. Assumes nothing.
-use mathlib.Core.Path.{◌≡◌, refl}
-use mathlib.Core.Bool.{true, false, and-false}
+use mathlib.Core.Path.{◌≡◌, refl, sym, ap}
+use mathlib.Core.Bool.{Bool, true, false, ◌&&◌, and-false, true≢false}
 use mathlib.Core.Logic.{⊎_elim}
 use Prim.Native.Nat.{ℕ, zero, suc, ◌+◌, ◌<◌}
 use native.Mathlib.Nat.{eq-or-lt_of_le, le_of_suc-le-suc, not-suc-le-zero}
 use native.Mathlib.Omega.{arith}
 use native.Mathlib.Numerals.{add-one}
 use Rattle.geom.proofs.Bools.{and_left, and_right, and_both}
-use Rattle.gfx.specs.State.{place_ok, places_ok}
+use lib.IntN.{ℤ, pos, negsuc}
+use borrow.Author.Tests.{eqb-true}
+use Rattle.std.specs.Bool.{one_answer}
+use Rattle.std.specs.Ordering.{int_eq}
+use Rattle.std.proofs.lemmas.Bool.Decides.{Decides-int_eq}
+use Rattle.geom.specs.Int.{eq_z}
+use Rattle.geom.specs.declared.IRect.{IRect}
+use Rattle.gfx.specs.State.{both_zero, four_zeros, place_ok, places_ok}
 use Rattle.gfx.specs.declared.Canvas.{Canvas}
+
+-- a free place as `==` tests it
+zero_is : (z : ℤ) → int_eq z (pos 0) ≡ eq_z z (pos 0)
+zero_is z = one_answer (int_eq z (pos 0)) (eq_z z (pos 0)) (Decides-int_eq z (pos 0)) (none z, λ q. rw q)
+  where
+    none : (z : ℤ) → eq_z z (pos 0) ≡ true → z ≡ pos 0
+    none (pos n) e = ap pos (eqb-true n 0 e)
+    none (negsuc n) e = absurd (true≢false (sym e))
+
+pub zeros_is : (b : IRect)
+    → (int_eq b.x0 (pos 0) && (int_eq b.y0 (pos 0) && (int_eq b.x1 (pos 0) && int_eq b.y1 (pos 0)))) ≡ four_zeros b
+unfolding four_zeros both_zero
+zeros_is b = rw (zero_is b.x0, zero_is b.y0, zero_is b.x1, zero_is b.y1) (pairs (eq_z b.x0 (pos 0)) (eq_z b.y0 (pos 0)) (eq_z b.x1 (pos 0) && eq_z b.y1 (pos 0)))
+  where
+    pairs : (p q r : Bool) → (p && (q && r)) ≡ ((p && q) && r)
+    pairs true q r = refl
+    pairs false q r = refl
 
 pub places_none : (c : Canvas) → places_ok c 0 ≡ true
 unfolding places_ok

@@ -1,10 +1,10 @@
 -- Sides, pitches, counts of words and the index of a pixel. Assumes nothing.
 use mathlib.Core.Path.{◌≡◌}
 use mathlib.Core.Bool.{Bool, true, false, cond, ◌&&◌}
-use Prim.Native.Nat.{ℕ, ◌+◌, ◌*◌, ◌-◌, ◌<◌, ◌≤◌, max}
+use Prim.Native.Nat.{ℕ, ◌+◌, ◌*◌, ◌-◌, ◌<◌, ◌≤◌, min, max}
 use native.Mathlib.Nat.{mul-le-mul, mul_comm}
 use native.Mathlib.Omega.{arith}
-use borrow.Author.Tests.{ltb-true}
+use borrow.Author.Tests.{ltb-true, ltb-false}
 use lib.Arith.{digits_lt}
 use lib.Dec.{ltb}
 use lib.IntN.{ℤ}
@@ -95,6 +95,13 @@ pixel_in_lem c n x y o =
     let tall = side_of c.h v.side_h in
     let column : nearest_in c.w x < c.pitch = omega (arith, near_below c.w x wide.low, o.frame.rows.room) in
     rw (o.frame.long, mul_comm c.pitch (up c.h)) (digits_lt (near_below c.h y tall.low) column)
+
+-- as `min` has it
+pub nearest_is : (n x : ℤ) → nearest_in n x ≡ min (up x) (up n - 1)
+unfolding nearest_in
+nearest_is n x =
+    split (ltb (up x) (up n)) (λ t. cond t (up x) (up n - 1) ≡ min (up x) (up n - 1)) (λ e. omega (arith, ltb-true (up x) (up n) e))
+    (λ e. omega (arith, ltb-false (up x) (up n) e))
 
 -- ---- room for a clip
 

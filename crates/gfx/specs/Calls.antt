@@ -1,11 +1,14 @@
 -- The canvas calls (document 01, "Number and item returned"): for each its number, 0 where it is accepted, and by that number the
 -- state that it returns and the pixels that it leaves. The tests stand in the document's order, 12, 2, 15, 8, 13, 6, 7, 9
 -- (15: document 02, 2026-07).
-use Rattle.std.specs.Prelude.{Bool, cond, ◌&&◌, List, ◌≡◌, ℕ, ◌+◌, ◌*◌, ◌-◌, max, ltb, eqb, ℤ, pos, get_or}
+use Rattle.std.specs.Prelude.{Bool, cond, ◌&&◌, List, ◌≡◌, ℕ, ◌+◌, ◌*◌, ◌-◌, max, ltb, eqb, ℤ, pos, get_or, Ok, Err}
 use Rattle.geom.specs.Int.{up, max_z, eq_z}
 use Rattle.geom.specs.Box.{no_box}
 use Rattle.geom.specs.Plane.{rect_ok}
 pub use Rattle.geom.specs.Refusals.{unless, and_then}
+use Rattle.std.specs.declared.result.Result.{Result}
+use Rattle.geom.specs.Refusals.{code}
+use Rattle.geom.specs.declared.checks.Refusal.{Refusal}
 use Rattle.geom.specs.declared.IRect.{IRect}
 use Rattle.geom.specs.declared.Rect.{Rect}
 use Rattle.color.specs.declared.Pixel.{Pixel}
@@ -33,6 +36,23 @@ box_answer n b = record { number = n; area = cond (eqb n 0) b no_box }
 
 unfoldable pub pixel_answer : ℕ → ℕ → Pixel
 pixel_answer n v = record { number = n; value = cond (eqb n 0) v 0 }
+
+-- the same of a result: what was accepted, beside 0, or what is left beside the number of the refusal
+abbrev pub done_of : Canvas → Result Canvas Refusal → Done
+done_of given (Ok next) = record { number = 0; canvas = next }
+done_of given (Err r) = record { number = code r; canvas = given }
+
+abbrev pub counted_of : Canvas → Result ℕ Refusal → Counted
+counted_of c (Ok k) = record { number = 0; canvas = c; steps = k }
+counted_of c (Err r) = record { number = code r; canvas = c; steps = 0 }
+
+abbrev pub boxed_of : Result IRect Refusal → Boxed
+boxed_of (Ok b) = record { number = 0; area = b }
+boxed_of (Err r) = record { number = code r; area = no_box }
+
+abbrev pub pixel_of : Result ℕ Refusal → Pixel
+pixel_of (Ok v) = record { number = 0; value = v }
+pixel_of (Err r) = record { number = code r; value = 0 }
 
 -- what a call that is lent px promises: of its number, the given state, the next one, px as it came and as it is drawn
 pub record Called (n : ℕ) (given next : Canvas) (px drawn : List ℕ) (r : Done) (px' : List ℕ) : Type 0 where

@@ -13,14 +13,17 @@ ghost use Rattle.color.specs.Colours.{pix_of};
 ghost use Rattle.draw.specs.Areas.{RowFits, AreaFits, drawn_in, area};
 ghost use Rattle.draw.specs.Frame.{framed};
 ghost use Rattle.gfx.specs.State.{in_canvas, places_ok, frame_ok, valid_of, fresh_of, pushed, unsaved, popped};
+ghost use Rattle.geom.specs.Refusals.{number_of};
+ghost use Rattle.gfx.specs.Calls.{done_of, counted_of, boxed_of, pixel_of};
 ghost use Rattle.gfx.specs.Calls.{Called, answer, box_answer, pixel_answer, raised, new_number, resize_number, same_size};
 ghost use Rattle.gfx.specs.Calls.{resized, resized_px, state_number, push_box_number, push_number, px_number, cleared_to};
 ghost use Rattle.gfx.specs.Calls.{shape_number, nearest_in, pixel_at};
 
-use crate::checks::{clip_ok, in_canvas, new_number, place_ok, raise, side_ok, size_number};
-pub use crate::points::{coords_ok, points_number, points_ok};
+use crate::checks::{check_new, check_size, clip_ok, in_canvas, place_ok, raise, side_ok};
+pub use crate::points::{check_points, coords_ok, points_number, points_ok};
 use color::{Color, Pixel};
-use draw::{frame_number, larger, pitch_number};
+use draw::{check_frame, check_pitch};
+use geom::checks::{Refusal, ensure, number};
 use geom::{IRect, Rect, nat_of};
 
 // A canvas without its pixels: its sides, the words of a row of px, its clip, and up to 16 saved clips, of which `depth` are in
@@ -61,6 +64,69 @@ pub struct Boxed {
     pub area: IRect,
 }
 
+impl Done {
+    // The answer of a call that was given a state: the next state, or the refusal beside the given one.
+    pub fn of(given: Canvas, next: Result<Canvas, Refusal>) -> Done
+        ensures { result ≡ done_of given next }
+    {
+        match next {
+            Ok(canvas) => Done { number: 0, canvas },
+            Err(refusal) => Done {
+                number: refusal.into(),
+                canvas: given,
+            },
+        }
+    }
+}
+
+impl Counted {
+    // The answer of a shape call on a canvas: its steps, or the refusal.
+    pub fn of(canvas: Canvas, drawn: Result<u64, Refusal>) -> Counted
+        ensures { result ≡ counted_of canvas drawn }
+    {
+        match drawn {
+            Ok(steps) => Counted {
+                number: 0,
+                canvas,
+                steps,
+            },
+            Err(refusal) => Counted {
+                number: refusal.into(),
+                canvas,
+                steps: 0,
+            },
+        }
+    }
+}
+
+impl Boxed {
+    // The answer of a call that asks for a box: the box, or four zeros beside the refusal.
+    fn of(asked: Result<IRect, Refusal>) -> Boxed
+        ensures { result ≡ boxed_of asked }
+    {
+        match asked {
+            Ok(area) => Boxed { number: 0, area },
+            Err(refusal) => Boxed {
+                number: refusal.into(),
+                area: IRect::ZERO,
+            },
+        }
+    }
+}
+
+// The answer of a call that asks for a pixel: its value, or 0 beside the refusal.
+fn pixel_of(asked: Result<u32, Refusal>) -> Pixel
+    ensures { result ≡ pixel_of asked }
+{
+    match asked {
+        Ok(value) => Pixel { number: 0, value },
+        Err(refusal) => Pixel {
+            number: refusal.into(),
+            value: 0,
+        },
+    }
+}
+
 // The first w words of row y set to one value.
 fn store_row(px: &mut [u32], pitch: usize, y: usize, w: usize, v: u32)
     requires { RowFits pitch y 0 w (length px.old) }
@@ -86,28 +152,21 @@ fn store_rows(px: &mut [u32], pitch: usize, w: usize, h: usize, v: u32)
 fn nearest_in(n: i32, x: i32) -> usize
     ensures { result ≡ nearest_in n x }
 {
-    let k = nat_of(n);
-    let i = nat_of(x);
-    if i < k {
-        return i;
-    }
-    if 0 < k { k - 1 } else { 0 }
+    nat_of(x).min(nat_of(n).saturating_sub(1))
 }
 
 impl Canvas {
     // A canvas with all of it as clip and nothing saved.
+    #[tactic(auto, unfolding(crate::specs::State::fresh_of))]
     fn fresh(w: i32, h: i32, pitch: usize) -> Canvas
         ensures { result ≡ fresh_of w h pitch }
     {
-        let clip = IRect::new(0, 0, w, h);
-        let zero = IRect::ZERO;
-        let saved = [zero; 16];
         Canvas {
             w,
             h,
             pitch,
-            clip,
-            saved,
+            clip: IRect::new(0, 0, w, h),
+            saved: [IRect::ZERO; 16],
             depth: 0,
         }
     }
@@ -127,22 +186,15 @@ impl Canvas {
     }
 
     // Whether the sides, the depth and the clip are all right.
+    #[tactic(auto, unfolding(crate::specs::State::frame_ok))]
     fn frame_ok(self) -> bool
         ensures { result ≡ frame_ok self }
     {
-        if !side_ok(self.w) {
-            return false;
-        }
-        if !side_ok(self.h) {
-            return false;
-        }
-        if 16 < self.depth {
-            return false;
-        }
-        clip_ok(self.w, self.h, self.clip)
+        side_ok(self.w) & side_ok(self.h) & (self.depth <= 16) & clip_ok(self.w, self.h, self.clip)
     }
 
     // Whether a state is one that a canvas can be in: refusal 12 is given for any other.
+    #[tactic(auto, unfolding(crate::specs::State::valid_of))]
     pub fn valid(self) -> bool
         ensures { result ≡ valid_of self }
     {
@@ -156,73 +208,56 @@ impl Canvas {
         in_canvas(self.w, self.h, b)
     }
 
-    // The number that a call without pixels is refused with before it looks at its own arguments, or 0.
-    pub fn state_number(self) -> u32
-        ensures { result ≡ state_number self }
+    // What a call without pixels tests before it looks at its own arguments: refused with 12, then 15.
+    #[tactic(auto, unfolding(crate::specs::Calls::state_number))]
+    pub fn check_state(self) -> Result<(), Refusal>
+        ensures { number_of result ≡ state_number self }
     {
-        if !self.valid() {
-            return 12;
-        }
-        pitch_number(nat_of(self.w), self.pitch)
+        ensure(self.valid(), Refusal::State)?;
+        check_pitch(nat_of(self.w), self.pitch)
     }
 
-    // The same of a call on n lent words.
-    pub fn px_number(self, n: usize) -> u32
-        ensures { result ≡ px_number self n }
+    // The same of a call on n lent words: 12, 15, then 8.
+    #[tactic(auto, unfolding(crate::specs::Calls::px_number))]
+    pub fn check_px(self, n: usize) -> Result<(), Refusal>
+        ensures { number_of result ≡ px_number self n }
     {
-        if !self.valid() {
-            return 12;
-        }
-        frame_number(nat_of(self.w), nat_of(self.h), self.pitch, n)
+        ensure(self.valid(), Refusal::State)?;
+        check_frame(nat_of(self.w), nat_of(self.h), self.pitch, n)
     }
 
-    // The same of a shape call, by whether the floats given are finite and within 8,192 of 0.
+    // The same of a shape call, by whether the floats given are finite and within 8,192 of 0: then 6.
+    #[tactic(auto, unfolding(crate::specs::Calls::shape_number))]
+    pub fn check_shape(self, n: usize, ok: bool) -> Result<(), Refusal>
+        ensures { number_of result ≡ shape_number self n ok }
+    {
+        self.check_px(n)?;
+        ensure(ok, Refusal::Float)
+    }
+
+    // The number of `check_shape`, 0 where it passes.
     pub fn shape_number(self, n: usize, ok: bool) -> u32
         ensures { result ≡ shape_number self n ok }
     {
-        let number = self.px_number(n);
-        if number != 0 {
-            return number;
-        }
-        if ok { 0 } else { 6 }
+        number(self.check_shape(n, ok))
     }
 
-    // The number that `resize` is refused with, or 0: the pitch must be neither below the width of the state nor below the one
-    // wanted.
-    fn resize_number(self, w: i32, h: i32, n: usize) -> u32
-        ensures { result ≡ resize_number self w h n }
+    // The number of `check_px`, 0 where it passes.
+    pub fn px_number(self, n: usize) -> u32
+        ensures { result ≡ px_number self n }
     {
-        if !self.valid() {
-            return 12;
-        }
+        number(self.check_px(n))
+    }
+
+    // What `resize` tests: the pitch must be neither below the width of the state nor below the one wanted.
+    #[tactic(auto, unfolding(crate::specs::Calls::resize_number))]
+    fn check_resize(self, w: i32, h: i32, n: usize) -> Result<(), Refusal>
+        ensures { number_of result ≡ resize_number self w h n }
+    {
+        ensure(self.valid(), Refusal::State)?;
         let a = raise(w);
-        let least = larger(nat_of(self.w), nat_of(a));
-        size_number(least, a, raise(h), self.pitch, n)
-    }
-
-    // The number that `push_clip_i` is refused with, or 0.
-    fn push_box_number(self) -> u32
-        ensures { result ≡ push_box_number self }
-    {
-        let number = self.state_number();
-        if number != 0 {
-            return number;
-        }
-        if self.depth < 16 { 0 } else { 7 }
-    }
-
-    // The number that `push_clip` is refused with, or 0.
-    fn push_number(self, r: Rect) -> u32
-        ensures { result ≡ push_number self r }
-    {
-        let number = self.state_number();
-        if number != 0 {
-            return number;
-        }
-        if !r.in_range() {
-            return 6;
-        }
-        if self.depth < 16 { 0 } else { 7 }
+        let least = nat_of(self.w).max(nat_of(a));
+        check_size(least, a, raise(h), self.pitch, n)
     }
 
     // A new canvas with the sides raised, its pixels set to zeros.
@@ -247,41 +282,47 @@ impl Canvas {
     }
 
     // The clip saved, and cut to a box.
+    #[tactic(auto, unfolding(crate::specs::State::pushed))]
     fn push(self, b: IRect) -> Canvas
         requires { self.depth < 16 }
         ensures { result ≡ pushed self b }
     {
-        let depth = self.depth;
-        let clip = self.clip;
         let mut saved = self.saved;
-        saved[depth] = clip;
+        saved[self.depth] = self.clip;
         Canvas {
-            w: self.w,
-            h: self.h,
-            pitch: self.pitch,
-            clip: clip.intersect(b),
+            clip: self.clip.intersect(b),
             saved,
-            depth: depth + 1,
+            depth: self.depth + 1,
+            ..self
         }
     }
 
     // Back to the clip saved last; its place holds zeros again.
+    #[tactic(auto, unfolding(crate::specs::State::unsaved))]
     fn unsave(self) -> Canvas
         requires { (0 < self.depth) × (self.depth ≤ 16) }
         ensures { result ≡ unsaved self }
     {
-        let d = self.depth - 1;
+        let depth = self.depth - 1;
         let mut saved = self.saved;
-        let clip = saved[d];
-        saved[d] = IRect::new(0, 0, 0, 0);
+        let clip = saved[depth];
+        saved[depth] = IRect::ZERO;
         Canvas {
-            w: self.w,
-            h: self.h,
-            pitch: self.pitch,
             clip,
             saved,
-            depth: d,
+            depth,
+            ..self
         }
+    }
+
+    // `new`, or its refusal: 2, 15, then 8.
+    fn try_new(w: i32, h: i32, pitch: usize, px: &mut [u32]) -> Result<Canvas, Refusal>
+        ensures { Called (new_number w h pitch (length px.old)) (fresh_of (pos 0) (pos 0) 0)
+            (fresh_of (raised w) (raised h) pitch) px.old (framed pitch (up (raised w)) 0 px.old)
+            (done_of (fresh_of (pos 0) (pos 0) 0) result) px.new }
+    {
+        check_new(w, h, pitch, px.len())?;
+        Ok(Canvas::blank(w, h, pitch, px))
     }
 
     // A new canvas, whose pixels are zeros. A side below 1 is raised to 1.
@@ -290,15 +331,19 @@ impl Canvas {
             (fresh_of (raised w) (raised h) pitch) px.old (framed pitch (up (raised w)) 0 px.old) result
             px.new }
     {
-        let number = new_number(w, h, pitch, px.len());
-        if number != 0 {
-            return Done {
-                number,
-                canvas: Canvas::fresh(0, 0, 0),
-            };
+        Done::of(Canvas::fresh(0, 0, 0), Canvas::try_new(w, h, pitch, px))
+    }
+
+    // `resize`, or its refusal: 12, 2, 15, then 8.
+    fn try_resize(self, w: i32, h: i32, px: &mut [u32]) -> Result<Canvas, Refusal>
+        ensures { Called (resize_number self w h (length px.old)) self (resized self w h) px.old
+            (resized_px self w h px.old) (done_of self result) px.new }
+    {
+        self.check_resize(w, h, px.len())?;
+        if self.same_size(w, h) {
+            return Ok(self);
         }
-        let canvas = Canvas::blank(w, h, pitch, px);
-        Done { number, canvas }
+        Ok(Canvas::blank(w, h, self.pitch, px))
     }
 
     // Another size, whose pixels are zeros, in rows as long as before; the same size alters nothing.
@@ -307,104 +352,85 @@ impl Canvas {
         ensures { Called (resize_number self w h (length px.old)) self (resized self w h) px.old
             (resized_px self w h px.old) result px.new }
     {
-        let number = self.resize_number(w, h, px.len());
-        if number != 0 {
-            return Done {
-                number,
-                canvas: self,
-            };
-        }
-        if self.same_size(w, h) {
-            return Done {
-                number,
-                canvas: self,
-            };
-        }
-        let canvas = Canvas::blank(w, h, self.pitch, px);
-        Done { number, canvas }
+        Done::of(self, self.try_resize(w, h, px))
     }
 
     // The whole canvas.
     pub fn bounds(self) -> Boxed
         ensures { result ≡ box_answer (state_number self) (box_of (pos 0) (pos 0) self.w self.h) }
     {
-        let number = self.state_number();
-        if number != 0 {
-            return Boxed {
-                number,
-                area: IRect::new(0, 0, 0, 0),
-            };
-        }
-        Boxed {
-            number,
-            area: IRect::new(0, 0, self.w, self.h),
-        }
+        Boxed::of(self.check_state().and(Ok(IRect::new(0, 0, self.w, self.h))))
     }
 
     // The clip.
     pub fn clip(self) -> Boxed
         ensures { result ≡ box_answer (state_number self) self.clip }
     {
-        let number = self.state_number();
-        if number != 0 {
-            return Boxed {
-                number,
-                area: IRect::new(0, 0, 0, 0),
-            };
-        }
-        let area = self.clip;
-        Boxed { number, area }
+        Boxed::of(self.check_state().and(Ok(self.clip)))
+    }
+
+    // `push_clip`, or its refusal: 12, 15, 6, then 7.
+    #[tactic(auto, unfolding(crate::specs::Calls::push_number, crate::specs::Calls::answer))]
+    fn try_push(self, r: Rect) -> Result<Canvas, Refusal>
+        ensures { done_of self result ≡ answer (push_number self r) self (pushed self (outer_of r)) }
+    {
+        self.check_state()?;
+        ensure(r.in_range(), Refusal::Float)?;
+        ensure(self.depth < 16, Refusal::Clips)?;
+        Ok(self.push(IRect::from_rect_outer(r)))
     }
 
     // Save the clip, and cut it to the pixels around a rectangle.
     pub fn push_clip(self, r: Rect) -> Done
         ensures { result ≡ answer (push_number self r) self (pushed self (outer_of r)) }
     {
-        let number = self.push_number(r);
-        if number != 0 {
-            return Done {
-                number,
-                canvas: self,
-            };
-        }
-        let canvas = self.push(IRect::from_rect_outer(r));
-        Done { number, canvas }
+        Done::of(self, self.try_push(r))
+    }
+
+    // `push_clip_i`, or its refusal: 12, 15, then 7.
+    #[tactic(auto, unfolding(crate::specs::Calls::push_box_number, crate::specs::Calls::answer))]
+    fn try_push_box(self, b: IRect) -> Result<Canvas, Refusal>
+        ensures { done_of self result ≡ answer (push_box_number self) self (pushed self b) }
+    {
+        self.check_state()?;
+        ensure(self.depth < 16, Refusal::Clips)?;
+        Ok(self.push(b))
     }
 
     // Save the clip, and cut it to a box.
     pub fn push_clip_i(self, b: IRect) -> Done
         ensures { result ≡ answer (push_box_number self) self (pushed self b) }
     {
-        let number = self.push_box_number();
-        if number != 0 {
-            return Done {
-                number,
-                canvas: self,
-            };
+        Done::of(self, self.try_push_box(b))
+    }
+
+    // `pop_clip`, or its refusal: 12, then 15.
+    #[tactic(auto, unfolding(crate::specs::State::popped, crate::specs::Calls::answer))]
+    fn try_pop(self) -> Result<Canvas, Refusal>
+        ensures { done_of self result ≡ answer (state_number self) self (popped self) }
+    {
+        self.check_state()?;
+        if self.depth == 0 {
+            return Ok(self);
         }
-        let canvas = self.push(b);
-        Done { number, canvas }
+        Ok(self.unsave())
     }
 
     // Go back to the clip saved last; with nothing saved, nothing happens.
     pub fn pop_clip(self) -> Done
         ensures { result ≡ answer (state_number self) self (popped self) }
     {
-        let number = self.state_number();
-        if number != 0 {
-            return Done {
-                number,
-                canvas: self,
-            };
-        }
-        if self.depth == 0 {
-            return Done {
-                number,
-                canvas: self,
-            };
-        }
-        let canvas = self.unsave();
-        Done { number, canvas }
+        Done::of(self, self.try_pop())
+    }
+
+    // `clear`, or its refusal: 12, 15, then 8.
+    fn try_clear(self, px: &mut [u32], c: Color) -> Result<Canvas, Refusal>
+        ensures { Called (px_number self (length px.old)) self self px.old
+            (cleared_to self (pix_of c) px.old) (done_of self result) px.new }
+    {
+        self.check_px(px.len())?;
+        store_rows(px, self.pitch, nat_of(self.w), nat_of(self.h), c.pix());
+        Ok(self)
     }
 
     // Every pixel set to a colour, whatever the clip.
@@ -412,32 +438,22 @@ impl Canvas {
         ensures { Called (px_number self (length px.old)) self self px.old
             (cleared_to self (pix_of c) px.old) result px.new }
     {
-        let number = self.px_number(px.len());
-        if number != 0 {
-            return Done {
-                number,
-                canvas: self,
-            };
-        }
-        store_rows(px, self.pitch, nat_of(self.w), nat_of(self.h), c.pix());
-        Done {
-            number,
-            canvas: self,
-        }
+        Done::of(self, self.try_clear(px, c))
+    }
+
+    // `get`, or its refusal: 12, 15, then 8.
+    fn try_get(self, px: &[u32], x: i32, y: i32) -> Result<u32, Refusal>
+        ensures { pixel_of result ≡ pixel_answer (px_number self (length px.now)) (pixel_at self px.now x y) }
+    {
+        self.check_px(px.len())?;
+        let at = nearest_in(self.h, y) * self.pitch + nearest_in(self.w, x);
+        Ok(px[at])
     }
 
     // The pixel at x and y, each brought to the nearest inside.
     pub fn get(self, px: &[u32], x: i32, y: i32) -> Pixel
         ensures { result ≡ pixel_answer (px_number self (length px.now)) (pixel_at self px.now x y) }
     {
-        let number = self.px_number(px.len());
-        if number != 0 {
-            return Pixel { number, value: 0 };
-        }
-        let at = nearest_in(self.h, y) * self.pitch + nearest_in(self.w, x);
-        Pixel {
-            number,
-            value: px[at],
-        }
+        pixel_of(self.try_get(px, x, y))
     }
 }

@@ -1,8 +1,10 @@
 // The points of a call: a slice of coordinates x y x y.
 ghost use Rattle.std.specs.Prelude.{◌≡◌};
+ghost use Rattle.geom.specs.Refusals.{number_of};
 ghost use Rattle.gfx.specs.Points.{points_ok, coords_ok, points_number};
 
 use crate::Canvas;
+use geom::checks::{Refusal, ensure, number};
 use geom::float_ok;
 
 // An even count of coordinates, of at most 64 points: refusal 13 is given for any other.
@@ -25,18 +27,20 @@ pub fn coords_ok(pts: &[f32]) -> bool
     true
 }
 
-// The number that a shape call with points is refused with, or 0, by whether the other floats given are finite and within 8,192
-// of 0.
+// A shape call with points, by whether the other floats given are finite and within 8,192 of 0: refused with 12, 15, 8, 13, then
+// 6.
+#[tactic(auto, unfolding(crate::specs::Points::points_number))]
+pub fn check_points(canvas: Canvas, n: usize, pts: &[f32], others: bool) -> Result<(), Refusal>
+    ensures { number_of result ≡ points_number canvas n pts.now others }
+{
+    canvas.check_px(n)?;
+    ensure(points_ok(pts), Refusal::Points)?;
+    ensure(coords_ok(pts) & others, Refusal::Float)
+}
+
+// The number of `check_points`, 0 where it passes.
 pub fn points_number(canvas: Canvas, n: usize, pts: &[f32], others: bool) -> u32
     ensures { result ≡ points_number canvas n pts.now others }
 {
-    let number = canvas.px_number(n);
-    if number != 0 {
-        return number;
-    }
-    if !points_ok(pts) {
-        return 13;
-    }
-    let ok = coords_ok(pts) & others;
-    if ok { 0 } else { 6 }
+    number(check_points(canvas, n, pts, others))
 }

@@ -7,7 +7,6 @@ use Rattle.gfx.proofs.Canvas.fresh.Goals as goal
 pub returns : goal.returns
 unfolding fresh_of no_box
 returns c =
-    let st = c.before in
-    let w = kept st.args.w st.ranges.w.sfits in
-    let h = kept st.args.h st.ranges.h.sfits in
-    simp (simp (w, h) at c.new-clip.ensures, w, h)
+    let w = kept c.args.w c.ranges.w.sfits in
+    let h = kept c.args.h c.ranges.h.sfits in
+    simp (w, h, simp (w, h) at c.new.ensures)
