@@ -12,12 +12,6 @@ pub fn byte_at(s: &[u8], at: usize) -> u8
     if at < s.len() { s[at] } else { 0 }
 }
 
-fn wide(x: u8) -> usize
-    ensures { (result ≡ x) × (result < 256) }
-{
-    x as usize
-}
-
 // A number of two bytes.
 pub fn u16_at(s: &[u8], at: usize) -> usize
     ensures { (result ≡ u16_at s.now at) × (result < 65536) }
@@ -25,7 +19,7 @@ pub fn u16_at(s: &[u8], at: usize) -> usize
     if s.len() <= at {
         return 0;
     }
-    wide(byte_at(s, at)) + 256 * wide(byte_at(s, at + 1))
+    u16::from_le_bytes([byte_at(s, at), byte_at(s, at + 1)]) as usize
 }
 
 // A number of four bytes.
@@ -35,7 +29,7 @@ fn u32_at(s: &[u8], at: usize) -> u32
     if s.len() <= at {
         return 0;
     }
-    u16_at(s, at) as u32 + 65536 * u16_at(s, at + 2) as u32
+    u32::from_le_bytes([byte_at(s, at), byte_at(s, at + 1), byte_at(s, at + 2), byte_at(s, at + 3)])
 }
 
 // The float of a bit pattern. `from_bits` is defined at no NaN's pattern, so a NaN is made of 0 / 0.

@@ -80,10 +80,7 @@ fn depth_at(s: &[u8], k: usize, depth: usize) -> usize
     requires { (k < 65536) × (depth < 65536) }
     ensures { result ≡ depth_at s.now k depth }
 {
-    match kind_at(s, u16_at(s, 12 + 4 * k)) {
-        Ok(kind) => depth_after(kind, depth),
-        Err(_) => depth,
-    }
+    kind_at(s, u16_at(s, 12 + 4 * k)).map_or(depth, |kind| depth_after(kind, depth))
 }
 
 // The items, up to the first that is refused.

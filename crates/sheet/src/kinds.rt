@@ -197,10 +197,7 @@ fn paint_floats_ok(s: &[u8], p: usize) -> bool
     requires { p < 131072 }
     ensures { result ≡ paint_floats_ok s.now p }
 {
-    match paint_kind_at(s, p) {
-        Ok(kind) => all_floats(s, p + 12, paint_layout(kind).floats as usize),
-        Err(_) => true,
-    }
+    paint_kind_at(s, p).map_or(true, |kind| all_floats(s, p + 12, paint_layout(kind).floats as usize))
 }
 
 // The width of a chain, which stands apart from its points.
