@@ -27,15 +27,18 @@ impl From<Refusal> for Fault {
 fn side_ok(n: usize) -> bool
     ensures { result ≡ side_ok n }
 {
-    (1 <= n) & (n <= 2048)
+    (1..=2048).contains(&n)
 }
 
+#[tactic(auto, unfolding(crate::specs::Check::header_ok))]
 fn header_ok(s: &[u8]) -> bool
     ensures { result ≡ header_ok s.now }
 {
-    let sides = side_ok(u16_at(s, 0)) & side_ok(u16_at(s, 2));
-    let count = u16_at(s, 8) <= 1024;
-    sides & count & all_zero(s, 7, 1) & all_zero(s, 10, 2)
+    side_ok(u16_at(s, 0))
+        && side_ok(u16_at(s, 2))
+        && u16_at(s, 8) <= 1024
+        && all_zero(s, 7, 1)
+        && all_zero(s, 10, 2)
 }
 
 // Whether each item starts where the last ends, and the last ends the sheet.
@@ -71,7 +74,8 @@ fn check_at(s: &[u8], k: usize, depth: usize) -> Result<(), Fault>
 {
     let at = u16_at(s, 12 + 4 * k);
     let len = u16_at(s, 14 + 4 * k);
-    check_item(s, at, len, depth).map_err(|refusal| Fault { refusal, item: k as u32 + 1 })
+    let item = k as u32 + 1;
+    check_item(s, at, len, depth).map_err(|refusal| Fault { refusal, item })
 }
 
 // How many clips are saved after the item k.

@@ -97,9 +97,19 @@ struct Layout {
     paint: u8,
 }
 
-// An item of four bytes alone, and a paint of two colours alone: the others are told by what differs from them.
-const BARE: Layout = Layout { length: 4, zero: 1, zeros: 3, float: 4, floats: 0, paint: 0 };
-const COLOURS: Layout = Layout { length: 28, zero: 28, zeros: 0, float: 12, floats: 0, paint: 0 };
+// An item of which bytes 1 to 3 are zero, and then come its floats.
+fn plain(length: u32, floats: u32) -> Layout
+    ensures { result ≡ row length 1 3 4 floats 0 }
+{
+    Layout {
+        length,
+        zero: 1,
+        zeros: 3,
+        float: 4,
+        floats,
+        paint: 0,
+    }
+}
 
 // An item of a kind; m is a polygon's or a chain's number of points.
 fn layout_of(kind: Kind, m: u32) -> Layout
@@ -107,26 +117,67 @@ fn layout_of(kind: Kind, m: u32) -> Layout
     ensures { result ≡ layout_of (kind_code kind) m }
 {
     match kind {
-        Kind::Push => Layout { length: 20, floats: 4, ..BARE },
-        Kind::Pop => BARE,
-        Kind::Fill => Layout { length: 52, floats: 5, paint: 24, ..BARE },
-        Kind::Stroke => Layout { length: 32, floats: 6, ..BARE },
-        Kind::Line => Layout { length: 28, floats: 5, ..BARE },
-        Kind::Poly => Layout { length: 32 + 8 * m, zeros: 1, float: 32, floats: 2 * m, paint: 4, ..BARE },
-        Kind::Shadow => Layout { length: 32, zero: 2, zeros: 2, floats: 6, ..BARE },
-        Kind::Chain => Layout { length: 12 + 8 * m, zeros: 1, float: 12, floats: 2 * m, ..BARE },
+        Kind::Push => plain(20, 4),
+        Kind::Pop => plain(4, 0),
+        Kind::Fill => Layout {
+            paint: 24,
+            ..plain(52, 5)
+        },
+        Kind::Stroke => plain(32, 6),
+        Kind::Line => plain(28, 5),
+        Kind::Poly => Layout {
+            zeros: 1,
+            float: 32,
+            paint: 4,
+            ..plain(32 + 8 * m, 2 * m)
+        },
+        Kind::Shadow => Layout {
+            zero: 2,
+            zeros: 2,
+            ..plain(32, 6)
+        },
+        Kind::Chain => Layout {
+            zeros: 1,
+            float: 12,
+            ..plain(12 + 8 * m, 2 * m)
+        },
     }
 }
+
+// A paint whose bytes are all used: its two colours, and four floats.
+const WHOLE: Layout = Layout {
+    length: 28,
+    zero: 28,
+    zeros: 0,
+    float: 12,
+    floats: 4,
+    paint: 0,
+};
 
 // A paint of a kind, beside the three zeros after its kind.
 fn paint_layout(kind: PaintKind) -> Layout
     ensures { result ≡ paint_layout (paint_code kind) }
 {
     match kind {
-        PaintKind::Solid => Layout { zero: 8, zeros: 20, ..COLOURS },
-        PaintKind::VGrad => Layout { zero: 20, zeros: 8, floats: 2, ..COLOURS },
-        PaintKind::Linear => Layout { floats: 4, ..COLOURS },
-        PaintKind::Radial => Layout { zero: 24, zeros: 4, floats: 3, ..COLOURS },
+        PaintKind::Solid => Layout {
+            zero: 8,
+            zeros: 20,
+            floats: 0,
+            ..WHOLE
+        },
+        PaintKind::VGrad => Layout {
+            zero: 20,
+            zeros: 8,
+            floats: 2,
+            ..WHOLE
+        },
+        PaintKind::Linear => WHOLE,
+        PaintKind::Radial => Layout {
+            zero: 24,
+            zeros: 4,
+            floats: 3,
+            ..WHOLE
+        },
     }
 }
 
@@ -186,10 +237,9 @@ fn bytes_ok(s: &[u8], at: usize, kind: Kind) -> bool
     ensures { result ≡ bytes_ok s.now at }
 {
     let f = layout_at(s, at, kind);
-    let zero = all_zero(s, at + f.zero as usize, f.zeros as usize);
-    let skip = skip_ok(s, at, kind);
-    let paint = (f.paint == 0) | paint_bytes_ok(s, at + f.paint as usize);
-    zero & skip & paint
+    all_zero(s, at + f.zero as usize, f.zeros as usize)
+        && skip_ok(s, at, kind)
+        && (f.paint == 0 || paint_bytes_ok(s, at + f.paint as usize))
 }
 
 #[tactic(auto, unfolding(crate::specs::Kinds::paint_floats_ok, crate::specs::Bytes::all_at))]
@@ -197,7 +247,10 @@ fn paint_floats_ok(s: &[u8], p: usize) -> bool
     requires { p < 131072 }
     ensures { result ≡ paint_floats_ok s.now p }
 {
-    paint_kind_at(s, p).map_or(true, |kind| all_floats(s, p + 12, paint_layout(kind).floats as usize))
+    paint_kind_at(s, p).map_or(
+        true,
+        |kind| all_floats(s, p + 12, paint_layout(kind).floats as usize),
+    )
 }
 
 // The width of a chain, which stands apart from its points.
@@ -215,10 +268,9 @@ fn floats_ok(s: &[u8], at: usize, kind: Kind) -> bool
     ensures { result ≡ floats_ok s.now at }
 {
     let f = layout_at(s, at, kind);
-    let own = all_floats(s, at + f.float as usize, f.floats as usize);
-    let width = width_ok(s, at, kind);
-    let paint = (f.paint == 0) | paint_floats_ok(s, at + f.paint as usize);
-    own & width & paint
+    all_floats(s, at + f.float as usize, f.floats as usize)
+        && width_ok(s, at, kind)
+        && (f.paint == 0 || paint_floats_ok(s, at + f.paint as usize))
 }
 
 // The check of an item where `depth` clips are saved: 4, 13, 5, 6, and 7 for a push where 16 are.
