@@ -9,9 +9,6 @@ pub loop-k-init : goal.loop-k-init
 loop-k-init c =
     rw c.start_state-canvas.ensures (walking_first c.args.s.now c.requires c.u16_at-n.result c.u16_at-n.ensures.0)
 
-pub overflow_cast-k : goal.overflow_cast-k
-overflow_cast-k c = record { fits = omega (arith, c.u16_at-n.ensures.1) }
-
 -- ---- a shape
 
 pub cells-pixels-requires : goal.cells-pixels-requires
