@@ -1,4 +1,6 @@
--- The laws of bytes put at a place (Placing), of a sheet put part by part (Parts), and of the sheet that items make (Laid). Assumes nothing.
+-- The laws of bytes put into a buffer (Placing), of a sheet that is put part by part (Parts) and item by item (Turns), and of one that is laid
+-- out from its items (Laid). Assumes nothing.
 pub mod Placing
 pub mod Parts
+pub mod Turns
 pub mod Laid

@@ -1,4 +1,4 @@
--- The laws of the orders: as numbers (Digits), in their order (Rising), their items in a loop (Turns), each accepted (Accepted), and what is
+-- The laws of the orders: as numbers (Digits), in their order (Rising), set from the last on (Turns), each accepted (Accepted), and what is
 -- claimed of all (Theorem). Assumes nothing.
 pub mod Digits
 pub mod Rising

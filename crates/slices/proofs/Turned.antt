@@ -1,12 +1,6 @@
 -- A slice as a loop leaves it after its first elements: the answers so far, then what stood there. Assumes nothing.
-use mathlib.Core.Path.{◌≡◌, refl, ap, ◌∙◌}
-use mathlib.Core.List.{List, [], ◌∷◌, map}
-use Prim.Native.Nat.{ℕ, zero, suc, ◌+◌, ◌≤◌, ◌<◌}
-use native.Mathlib.Numerals.{add-one}
-use native.Mathlib.Nat.{not-suc-le-zero}
-use native.Mathlib.Omega.{arith}
+use Rattle.std.proofs.Common.{◌≡◌, refl, ap, ◌∙◌, List, [], ◌∷◌, map, ℕ, zero, suc, ◌+◌, ◌<◌, add-one, not-suc-le-zero, arith, length, get_or, set}
 use borrow.Author.Tests.{eq-eqb, ne_eqb}
-use lib.ListN.{length, get_or, set, length-set}
 use Rattle.slices.specs.Each.{each}
 
 module _ {ℓ ℓ'} {A : Type ℓ} {B : Type ℓ'} (f : A → B) where
@@ -16,20 +10,17 @@ module _ {ℓ ℓ'} {A : Type ℓ} {B : Type ℓ'} (f : A → B) where
   turned (suc i) (x ∷ xs) [] = []
   turned (suc i) (x ∷ xs) (o ∷ out) = f x ∷ turned i xs out
 
+  pub turned_none : (xs : List A) (out : List B) → out ≡ turned 0 xs out
+  unfolding turned
+  turned_none xs out = refl
+
   -- what stands at i is still the old element
-  pub turned_at : (i : ℕ) (xs : List A) (out : List B) (d : B) → get_or (turned i xs out) i d ≡ get_or out i d
+  turned_at : (i : ℕ) (xs : List A) (out : List B) (d : B) → get_or (turned i xs out) i d ≡ get_or out i d
   unfolding turned
   turned_at zero xs out d = refl
   turned_at (suc i) [] out d = refl
   turned_at (suc i) (x ∷ xs) [] d = refl
   turned_at (suc i) (x ∷ xs) (o ∷ out) d = turned_at i xs out d
-
-  pub turned_length : (i : ℕ) (xs : List A) (out : List B) → length (turned i xs out) ≡ length out
-  unfolding turned
-  turned_length zero xs out = refl
-  turned_length (suc i) [] out = refl
-  turned_length (suc i) (x ∷ xs) [] = refl
-  turned_length (suc i) (x ∷ xs) (o ∷ out) = ap suc (turned_length i xs out)
 
   one_more : (i : ℕ) (xs : List A) (out : List B) (d : A) → i < length xs → set (turned i xs out) i (f (get_or xs i d)) ≡ turned (suc i) xs out
   unfolding turned
@@ -39,51 +30,29 @@ module _ {ℓ ℓ'} {A : Type ℓ} {B : Type ℓ'} (f : A → B) where
   one_more (suc i) (x ∷ xs) [] d h = refl
   one_more (suc i) (x ∷ xs) (o ∷ out) d h = ap (λ l. f x ∷ l) (one_more i xs out d (omega arith))
 
-  pub turned_more : (i : ℕ) (xs : List A) (out : List B) (d : A) → i < length xs → set (turned i xs out) i (f (get_or xs i d)) ≡ turned (i + 1) xs out
-  turned_more i xs out d h = rw add-one (one_more i xs out d h)
-
-  pub turned_all : (xs : List A) (out : List B) → length xs ≡ length out → turned (length xs) xs out ≡ map f xs
+  all_of : (xs : List A) (out : List B) → length xs ≡ length out → turned (length xs) xs out ≡ map f xs
   unfolding turned
-  turned_all [] [] e = refl
-  turned_all [] (o ∷ out) e = absurd (omega arith)
-  turned_all (x ∷ xs) [] e = absurd (omega arith)
-  turned_all (x ∷ xs) (o ∷ out) e = ap (λ l. f x ∷ l) (turned_all xs out (omega arith))
+  all_of [] [] e = refl
+  all_of [] (o ∷ out) e = absurd (omega arith)
+  all_of (x ∷ xs) [] e = absurd (omega arith)
+  all_of (x ∷ xs) (o ∷ out) e = ap (λ l. f x ∷ l) (all_of xs out (omega arith))
 
--- what holds at the loop's test, with n elements in all and i of them turned
-pub record Turning {ℓ ℓ'} {A : Type ℓ} {B : Type ℓ'} (f : A → B) (xs : List A) (old : List B) (n : ℕ) (out : List B) (i : ℕ) : Type ℓ' where
-  pub within : i ≤ n
-  pub full : n ≡ length xs
-  pub room : n ≡ length old
-  pub long : n ≡ length out
-  pub so : out ≡ turned f i xs old
+  -- the element at i is set to its answer
+  pub turned_more : {i : ℕ} {now : List B} {v : B} (xs : List A) (old : List B) (d : A) → now ≡ turned i xs old → i < length xs → v ≡ f (get_or xs i d)
+      → set now i v ≡ turned (i + 1) xs old
+  turned_more {i} xs old d e h a = rw (e, a, add-one i) (one_more i xs old d h)
 
-module _ {ℓ ℓ'} {A : Type ℓ} {B : Type ℓ'} (f : A → B) where
-  pub begin : (xs : List A) (out : List B) (n : ℕ) → n ≡ length xs → n ≡ length out → Turning f xs out n out 0
-  unfolding turned
-  begin xs out n full room = record { within = omega arith; full = full; room = room; long = room; so = refl }
+  pub turned_all : {i : ℕ} {now : List B} (xs : List A) (old : List B) → now ≡ turned i xs old → i ≡ length xs → length xs ≡ length old → now ≡ map f xs
+  turned_all {i} xs old e h l = rw (e, h) (all_of xs old l)
 
-  pub again : {xs : List A} {old out : List B} {n i : ℕ} {v : B} (d : A) → Turning f xs old n out i → i < n → v ≡ f (get_or xs i d) → Turning f xs old n (set out i v) (i + 1)
-  again {xs} {old} {out} {n} {i} {v} d t h e =
-      record {
-        within = omega arith;
-        full = t.full;
-        room = t.room;
-        long = simp length-set t.long;
-        so = rw (t.so, e) (turned_more f i xs old d (omega (arith, t.full)));
-      }
+  pub turned_each : {i : ℕ} {now : List B} (xs : List A) (old : List B) → now ≡ turned i xs old → i ≡ length xs → length xs ≡ length old → now ≡ each f xs old
+  turned_each {i} xs old e h l = rw (eq-eqb (length xs) (length old) l) (turned_all xs old e h l)
 
-  pub done : {xs : List A} {old out : List B} {n i : ℕ} → Turning f xs old n out i → n ≤ i → out ≡ map f xs
-  done {xs} {old} {out} {n} {i} t h =
-      let e : i ≡ length xs = omega (arith, t.within, t.full) in
-      t.so ∙ rw e (turned_all f xs old (omega (arith, t.full, t.room)))
+  pub each_none : (xs : List A) (old : List B) → (length xs ≡ length old → ⊥) → old ≡ each f xs old
+  each_none xs old h = rw (ne_eqb (length xs) (length old) h)
 
--- in place: the element to turn is still the old one
-pub here {ℓ} : {A : Type ℓ} (f : A → A) {xs out : List A} {n i : ℕ} (d : A) → Turning f xs xs n out i → get_or out i d ≡ get_or xs i d
-here f {xs} {out} {n} {i} d t = rw t.so (turned_at f i xs xs d)
-
-module _ {ℓ ℓ'} {A : Type ℓ} {B : Type ℓ'} (f : A → B) where
-  pub done_each : {xs : List A} {old out : List B} {n i : ℕ} → Turning f xs old n out i → n ≤ i → out ≡ each f xs old
-  done_each {xs} {old} t h = rw (eq-eqb (length xs) (length old) (omega (arith, t.full, t.room))) (done f t h)
-
-  pub none_each : (xs : List A) (old : List B) → (length xs ≡ length old → ⊥) → old ≡ each f xs old
-  none_each xs old h = rw (ne_eqb (length xs) (length old) h)
+-- the same in place, where the element at i is still the old one
+pub turned_in_place {ℓ} : {A : Type ℓ} (f : A → A) {i : ℕ} {now : List A} {v : A} (xs : List A) (d : A) → now ≡ turned f i xs xs → i < length xs → v ≡ f (get_or now i d)
+    → set now i v ≡ turned f (i + 1) xs xs
+turned_in_place f {i} xs d e h a =
+    turned_more f xs xs d e h (a ∙ ap f (ap (λ l. get_or l i d) e ∙ turned_at f i xs xs d))

@@ -1,2 +1,0 @@
--- The laws of writing chosen items in loops. Assumes nothing.
-pub mod Turns
