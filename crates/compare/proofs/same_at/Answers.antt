@@ -5,15 +5,6 @@ use Rattle.items.proofs.Lawful.{same_in}
 use Rattle.compare.specs.Compare.{same_at}
 use Rattle.compare.proofs.same_at.Goals as goal
 
-pub item_bytes-requires : goal.item_bytes-requires
-item_bytes-requires c = tt
-
-pub item_bytes-requires-2 : goal.item_bytes-requires-2
-item_bytes-requires-2 c = tt
-
-pub same_bytes-requires : goal.same_bytes-requires
-same_bytes-requires c = tt
-
 pub returns : goal.returns
 unfolding same_at
 returns c =
