@@ -20,7 +20,8 @@ use items::reaches::reach;
 use items::reader::item_bytes;
 use sheet::u16_at;
 
-// Whether two runs of bytes are the same. The loop has no branch, so that the compiler does several bytes at once.
+// Whether two runs of bytes are the same.
+#[tactic(auto, using(crate::proofs::Bytes::eq_same))]
 pub fn same_bytes(a: &[u8], b: &[u8]) -> bool
     ensures { result ≡ same_bytes a.now b.now }
 {
@@ -28,6 +29,7 @@ pub fn same_bytes(a: &[u8], b: &[u8]) -> bool
 }
 
 // Whether the items k of two sheets are the same.
+#[tactic(auto, using(items::proofs::Lawful::same_in), unfolding(crate::specs::Compare::same_at))]
 fn same_at(old: &[u8], new: &[u8], k: u16) -> bool
     ensures { result ≡ same_at old.now new.now k }
 {
@@ -45,7 +47,7 @@ fn shape_at(s: &[u8], k: u16) -> bool
 fn both_shapes(old: &[u8], new: &[u8], k: u16) -> bool
     ensures { result ≡ is_shape (item_in (bytes_at old.now k)) && is_shape (item_in (bytes_at new.now k)) }
 {
-    shape_at(old, k) & shape_at(new, k)
+    shape_at(old, k) && shape_at(new, k)
 }
 
 // The reach of the item k.
@@ -81,6 +83,7 @@ fn state_at(s: &[u8], k: u16, state: Canvas) -> Canvas
 
 // What so many pairs of shapes that differ tell, by the box around what their reaches, under their clips, have in the canvas; an
 // empty one is four zeros.
+#[tactic(auto, unfolding(geom::specs::Box::no_box))]
 fn settled(count: u16, area: IRect) -> Result<IRect, Refusal>
     ensures { told_by result ≡ settled count (Box.join area no_box) }
 {
@@ -121,11 +124,11 @@ pub fn changed(old: &[u8], new: &[u8]) -> Result<IRect, Refusal>
 }
 
 // Whether two sheets agree in width, height and ground.
+#[tactic(auto, unfolding(redraw::specs::Sheet::same_header))]
 pub fn same_header(old: &[u8], new: &[u8]) -> bool
     ensures { result ≡ same_header (sheet_of old.now) (sheet_of new.now) }
 {
-    let wide = u16_at(old, 0) == u16_at(new, 0);
-    let high = u16_at(old, 2) == u16_at(new, 2);
-    let grounds = ground(old).pix() == ground(new).pix();
-    wide & high & grounds
+    u16_at(old, 0) == u16_at(new, 0)
+        && u16_at(old, 2) == u16_at(new, 2)
+        && ground(old).pix() == ground(new).pix()
 }

@@ -47,19 +47,19 @@ loop-k-preserved c =
     let s = c.loop-k.state in
     elim c.if-not-same_at.branch [
       -- both are shapes
-      then-not-same_at+in_ok-ensure w ↦
-        let e = other_turn old new (a.n - k) m k (omega arith) s _ c.same_at.ensures w.if-not-same_at.true in
-        let p = told_pair c.canvas_of-canvas.result c.loop-k.count c.loop-k.area s.clip (bytes_at old k) (bytes_at new k)
-        (change_from old new m (k + 1) s) _ w.both_shapes.ensures (held _ _ w.ensure.ensures (w.in_ok-ensure.was)) in
-        (omega arith, omega arith, rw (w.count-is, w.area-is, w.state-is, w.area_with-area.ensures) (sym p ∙ rw (← e) c.loop-k.invariant.2))
-    -- the same push or pop
-    | else-not-same_at+then-not-shape_at w ↦
-        let e = same_turn old new (a.n - k) m k (omega arith) s _ c.same_at.ensures w.if-not-same_at.false in
-        (omega arith, omega arith, rw (w.count-is, w.area-is, w.state-is, w.state_at-state.ensures, ← e) c.loop-k.invariant.2)
-    -- the same shape
-    | else-not-same_at+else-not-shape_at w ↦
-        let e = shape_turn old new (a.n - k) m k (omega arith) s _ c.same_at.ensures w.if-not-same_at.false _ w.shape_at.ensures w.if-not-shape_at.false in
-        (omega arith, omega arith, rw (w.count-is, w.area-is, w.state-is, ← e) c.loop-k.invariant.2)
+      | then-not-same_at+in_ok-ensure w ↦
+          let e = other_turn old new (a.n - k) m k (omega arith) s _ c.same_at.ensures w.if-not-same_at.true in
+          let p = told_pair c.canvas_of-canvas.result c.loop-k.count c.loop-k.area s.clip (bytes_at old k) (bytes_at new k)
+          (change_from old new m (k + 1) s) _ w.both_shapes.ensures (held _ _ w.ensure.ensures (w.in_ok-ensure.was)) in
+          (omega arith, omega arith, rw (w.count-is, w.area-is, w.state-is, w.area_with-area.ensures) (sym p ∙ rw (← e) c.loop-k.invariant.2))
+      -- the same push or pop
+      | else-not-same_at+then-not-shape_at w ↦
+          let e = same_turn old new (a.n - k) m k (omega arith) s _ c.same_at.ensures w.if-not-same_at.false in
+          (omega arith, omega arith, rw (w.count-is, w.area-is, w.state-is, w.state_at-state.ensures, ← e) c.loop-k.invariant.2)
+      -- the same shape
+      | else-not-same_at+else-not-shape_at w ↦
+          let e = shape_turn old new (a.n - k) m k (omega arith) s _ c.same_at.ensures w.if-not-same_at.false _ w.shape_at.ensures w.if-not-shape_at.false in
+          (omega arith, omega arith, rw (w.count-is, w.area-is, w.state-is, ← e) c.loop-k.invariant.2)
     ]
 
 pub returns : goal.returns
