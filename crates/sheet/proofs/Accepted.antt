@@ -15,7 +15,7 @@ use Rattle.geom.proofs.Refusals.{passed}
 use Rattle.sheet.specs.Bytes.{zeros}
 use Rattle.sheet.specs.Kinds.{kind_at, points_at, layout_at, length_ok, points_ok, bytes_ok, floats_ok, saved_ok, item_number}
 use Rattle.sheet.specs.Check.{width_of, height_of, count_of, offset_of, length_of, size_ok, side_ok, header_ok, pairs_from, pairs_ok, head_number, number_at, depth_at, verdict, items_from, sheet_check}
-use Rattle.sheet.specs.declared.check.Verdict.{Verdict}
+use Rattle.sheet.specs.Check.{Verdict}
 
 -- ---- header and pairs
 

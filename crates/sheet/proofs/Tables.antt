@@ -1,25 +1,25 @@
--- The tables of kinds, at a kind that they do not have. Assumes nothing.
+-- The tables of kinds, at a number that no kind has. Assumes nothing.
 use Prim.Native.Nat.{ℕ}
-use mathlib.Core.Path.{◌≡◌}
+use mathlib.Core.Path.{◌≡◌, refl, sym, ap, ◌∙◌}
+use mathlib.Core.Bool.{true, false, false≢true}
 use mathlib.Core.List.{[], ◌∷◌}
 use borrow.Author.Tests.{ne_eqb}
 use Rattle.sheet.specs.Bytes.{lookup}
+use Rattle.sheet.specs.Kinds.{known}
 
--- `Others` is what the last arm of a `match` on the eight kinds knows of the kind
-abbrev pub Others : ℕ → Type 0
-Others k =
-    (((((((Unit {0} × (k ≡ 1 → ⊥)) × (k ≡ 2 → ⊥)) × (k ≡ 3 → ⊥)) × (k ≡ 4 → ⊥)) × (k ≡ 5 → ⊥)) × (k ≡ 6 → ⊥)) × (k ≡ 7 → ⊥)) × (k ≡ 8 → ⊥)
+other : (k i : ℕ) → known k ≡ false → known i ≡ true → k ≡ i → ⊥
+other k i u v e = false≢true (sym u ∙ ap known e ∙ v)
 
-pub no_kind : {A : Type 0} (k : ℕ) (a b c d e f g h z : A) → Others k
+pub no_kind : {A : Type 0} (k : ℕ) (a b c d e f g h z : A) → known k ≡ false
     → lookup k ((1, a) ∷ (2, b) ∷ (3, c) ∷ (4, d) ∷ (5, e) ∷ (6, f) ∷ (7, g) ∷ (8, h) ∷ []) z ≡ z
-no_kind k a b c d e f g h z other =
+no_kind k a b c d e f g h z u =
     simp (
-      ne_eqb k 1 other.0.0.0.0.0.0.0.1,
-      ne_eqb k 2 other.0.0.0.0.0.0.1,
-      ne_eqb k 3 other.0.0.0.0.0.1,
-      ne_eqb k 4 other.0.0.0.0.1,
-      ne_eqb k 5 other.0.0.0.1,
-      ne_eqb k 6 other.0.0.1,
-      ne_eqb k 7 other.0.1,
-      ne_eqb k 8 other.1,
+      ne_eqb k 1 (other k 1 u refl),
+      ne_eqb k 2 (other k 2 u refl),
+      ne_eqb k 3 (other k 3 u refl),
+      ne_eqb k 4 (other k 4 u refl),
+      ne_eqb k 5 (other k 5 u refl),
+      ne_eqb k 6 (other k 6 u refl),
+      ne_eqb k 7 (other k 7 u refl),
+      ne_eqb k 8 (other k 8 u refl),
     )

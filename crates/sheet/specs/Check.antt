@@ -1,10 +1,12 @@
 -- The number and the item that a sheet is refused with (document 01, "Number and item returned"): 1, 2, 3; then per item 4, 13,
 -- 5, 6, 7.
-use Rattle.std.specs.Prelude.{ℕ, zero, suc, ◌+◌, ◌*◌, List, Bool, ◌&&◌, cond, length, take, drop, leb, eqb}
-use Rattle.geom.specs.Refusals.{unless}
+use Rattle.std.specs.Prelude.{ℕ, zero, suc, ◌+◌, ◌*◌, List, Bool, ◌&&◌, cond, length, take, drop, leb, eqb, ⊤, Ok, Err}
+use Rattle.std.specs.declared.result.Result.{Result}
+use Rattle.geom.specs.declared.checks.Refusal.{Refusal}
+use Rattle.geom.specs.Refusals.{unless, code}
 use Rattle.sheet.specs.Bytes.{u16_at, zeros}
 use Rattle.sheet.specs.Kinds.{kind_at, item_number, depth_after}
-use Rattle.sheet.specs.declared.check.Verdict.{Verdict}
+use Rattle.sheet.specs.declared.check.Fault.{Fault}
 
 -- the header: width, height, count of items; and the pair of the item k, counted from 0
 abbrev pub width_of : List ℕ → ℕ
@@ -57,6 +59,11 @@ number_at s k depth = item_number s (offset_of s k) (length_of s k) depth
 unfoldable pub depth_at : List ℕ → ℕ → ℕ → ℕ
 depth_at s k depth = depth_after (kind_at s (offset_of s k)) depth
 
+-- what a sheet is refused with: the number, and the item, counted from 1; 0 where there is none
+pub record Verdict : Type 0 where
+  pub number : ℕ
+  pub item : ℕ
+
 abbrev pub verdict : ℕ → ℕ → Verdict
 verdict number item = record { number = number; item = item }
 
@@ -69,3 +76,15 @@ items_from s (suc left) k depth =
 -- the whole sheet
 unfoldable pub sheet_check : List ℕ → Verdict
 sheet_check s = cond (eqb (head_number s) 0) (items_from s (count_of s) 0 0) (verdict (head_number s) 0)
+
+-- a refusal of what stands before the items, and of the item k, counted from 0
+abbrev pub at_header : Refusal → Fault
+at_header refusal = record { refusal = refusal; item = 0 }
+
+abbrev pub at_item : Refusal → ℕ → Fault
+at_item refusal k = record { refusal = refusal; item = k + 1 }
+
+-- the number and the item of what the check returns, both 0 where it accepts
+abbrev pub verdict_of : Result ⊤ Fault → Verdict
+verdict_of (Ok u) = verdict 0 0
+verdict_of (Err f) = verdict (code f.refusal) f.item

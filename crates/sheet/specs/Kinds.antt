@@ -1,9 +1,47 @@
 -- The kinds of items (document 01, "The sheet"), and the number that an item is refused with.
 -- `s` is the sheet, and `at` the place of the item's first byte.
-use Rattle.std.specs.Prelude.{ℕ, ◌+◌, ◌-◌, ◌*◌, List, [], ◌∷◌, Bool, not, ◌&&◌, ◌||◌, ltb, leb, eqb}
+use Rattle.std.specs.Prelude.{ℕ, ◌+◌, ◌-◌, ◌*◌, ◌≡◌, List, [], ◌∷◌, Bool, false, not, ◌&&◌, ◌||◌, ltb, leb, eqb, MatchResult}
+use Rattle.std.specs.declared.result.Result.{Result}
+use Rattle.geom.specs.declared.checks.Refusal.{Refusal}
+use Rattle.geom.specs.declared.checks.Refusal.TheVariants as refusals
 use Rattle.geom.specs.Refusals.{unless}
 use Rattle.sheet.specs.Bytes.{byte_at, u16_at, zeros, float_ok_at, floats, lookup}
 use Rattle.sheet.specs.declared.kinds.Layout.{Layout}
+use Rattle.sheet.specs.declared.kinds.Kind.{Kind}
+use Rattle.sheet.specs.declared.kinds.Kind.TheVariants.{Push, Pop, Fill, Stroke, Line, Poly, Shadow, Chain}
+use Rattle.sheet.specs.declared.kinds.PaintKind.{PaintKind}
+use Rattle.sheet.specs.declared.kinds.PaintKind.TheVariants.{Solid, VGrad, Linear, Radial}
+
+-- the number that stands for a kind of item, and for a kind of paint
+abbrev pub kind_code : Kind → ℕ
+kind_code Push = 1
+kind_code Pop = 2
+kind_code Fill = 3
+kind_code Stroke = 4
+kind_code Line = 5
+kind_code Poly = 6
+kind_code Shadow = 7
+kind_code Chain = 8
+
+abbrev pub paint_code : PaintKind → ℕ
+paint_code Solid = 0
+paint_code VGrad = 1
+paint_code Linear = 2
+paint_code Radial = 3
+
+-- a number is a kind's: those of items run from 1 to 8, those of paints from 0 to 3
+abbrev pub known : ℕ → Bool
+known n = leb 1 n && leb n 8
+
+abbrev pub known_paint : ℕ → Bool
+known_paint n = leb n 3
+
+-- the kind with a number, or the refusal of a number that no kind has
+abbrev pub IsKind : ℕ → Result Kind Refusal → Type 0
+IsKind n r = MatchResult r (λ kind. kind_code kind ≡ n) (λ e. (e ≡ refusals.Kind) × (known n ≡ false))
+
+abbrev pub IsPaint : ℕ → Result PaintKind Refusal → Type 0
+IsPaint n r = MatchResult r (λ kind. paint_code kind ≡ n) (λ e. (e ≡ refusals.ZeroByte) × (known_paint n ≡ false))
 
 -- the kind; bytes 2 and 3, which are m in a polygon and in a chain
 abbrev pub kind_at : List ℕ → ℕ → ℕ

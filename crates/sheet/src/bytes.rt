@@ -6,36 +6,38 @@ ghost use Rattle.sheet.specs.Bytes.{byte_at, u16_at, u32_at, float_at, zeros, fl
 
 use geom::float_ok;
 
+#[tactic(auto, using(crate::proofs::Places::past_byte))]
 pub fn byte_at(s: &[u8], at: usize) -> u8
     ensures { result ≡ byte_at s.now at }
 {
     if at < s.len() { s[at] } else { 0 }
 }
 
-fn wide(x: u8) -> usize
-    ensures { (result ≡ x) × (result < 256) }
-{
-    x as usize
-}
-
 // A number of two bytes.
+#[tactic(auto, using(crate::proofs::Places::past_u16))]
 pub fn u16_at(s: &[u8], at: usize) -> usize
     ensures { (result ≡ u16_at s.now at) × (result < 65536) }
 {
     if s.len() <= at {
         return 0;
     }
-    wide(byte_at(s, at)) + 256 * wide(byte_at(s, at + 1))
+    u16::from_le_bytes([byte_at(s, at), byte_at(s, at + 1)]) as usize
 }
 
 // A number of four bytes.
+#[tactic(auto, using(crate::proofs::Places::past_u32))]
 fn u32_at(s: &[u8], at: usize) -> u32
     ensures { result ≡ u32_at s.now at }
 {
     if s.len() <= at {
         return 0;
     }
-    u16_at(s, at) as u32 + 65536 * u16_at(s, at + 2) as u32
+    u32::from_le_bytes([
+        byte_at(s, at),
+        byte_at(s, at + 1),
+        byte_at(s, at + 2),
+        byte_at(s, at + 3),
+    ])
 }
 
 // The float of a bit pattern. `from_bits` is defined at no NaN's pattern, so a NaN is made of 0 / 0.
@@ -56,7 +58,7 @@ pub fn f32_at(s: &[u8], at: usize) -> f32
     float_of(u32_at(s, at))
 }
 
-// Whether n bytes from a place on are zero.
+// Whether n bytes from a place on are zero. A loop: the check does not show `zeros` of `(0..n).all(..)`.
 pub(crate) fn all_zero(s: &[u8], at: usize, n: usize) -> bool
     requires { at + n < 0x100_0000_0000 }
     ensures { result ≡ zeros s.now at n }
@@ -69,7 +71,7 @@ pub(crate) fn all_zero(s: &[u8], at: usize, n: usize) -> bool
     true
 }
 
-// Whether n floats from a place on are finite and within 8,192 of 0.
+// Whether n floats from a place on are finite and within 8,192 of 0. A loop, as above.
 pub(crate) fn all_floats(s: &[u8], at: usize, n: usize) -> bool
     requires { at + 4 * n < 0x100_0000_0000 }
     ensures { result ≡ floats s.now at n }

@@ -6,4 +6,5 @@ pub mod check;
 mod kinds;
 
 pub use crate::bytes::{byte_at, f32_at, u16_at};
-pub use crate::check::{Verdict, check_sheet};
+pub use crate::check::{Fault, check_sheet};
+pub use crate::kinds::{Kind, PaintKind, kind_at, paint_kind_at};
