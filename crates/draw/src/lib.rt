@@ -2,10 +2,12 @@
 #![tactic(auto)]
 
 ghost use Rattle.std.specs.Prelude.{◌≡◌, ◌≤◌, ℕ, min, max, length};
+ghost use Rattle.geom.specs.Refusals.{number_of};
 ghost use Rattle.draw.specs.Areas.{area_of, clip_to, SpanFits, DrewSpan, TakesPixels, Inks, AreaFits, DrewIn, TakesRows, DrawsRows};
 ghost use Rattle.draw.specs.Frame.{pitch_number, frame_number};
 
 use color::Inked;
+use geom::checks::{Refusal, ensure, number};
 use geom::{IRect, nat_of};
 
 // A half-open box of pixels within the canvas: columns x0 up to x1, rows y0 up to y1.
@@ -15,6 +17,16 @@ pub struct Area {
     pub y0: usize,
     pub x1: usize,
     pub y1: usize,
+}
+
+impl Area {
+    // No pixel.
+    pub const NONE: Area = Area {
+        x0: 0,
+        y0: 0,
+        x1: 0,
+        y1: 0,
+    };
 }
 
 // The columns from x0 up to x1 of row y, in rows of `pitch` words.
@@ -27,71 +39,76 @@ pub struct Span {
 }
 
 // A box as an area, its negative sides raised to 0.
-pub fn area_of(b: IRect) -> Area
-    ensures { result ≡ area_of b }
-{
-    Area {
-        x0: nat_of(b.x0),
-        y0: nat_of(b.y0),
-        x1: nat_of(b.x1),
-        y1: nat_of(b.y1),
+impl From<IRect> for Area {
+    ghost from_gives = { λ b a. a ≡ area_of b };
+
+    fn from(b: IRect) -> Area {
+        Area {
+            x0: nat_of(b.x0),
+            y0: nat_of(b.y0),
+            x1: nat_of(b.x1),
+            y1: nat_of(b.y1),
+        }
     }
 }
 
 // What a clip lets through of a shape's reach: four zeros where that is empty.
+#[tactic(auto, unfolding(crate::specs::Areas::clip_to))]
 pub fn clipped(reach: IRect, clip: IRect) -> Area
     ensures { result ≡ clip_to reach clip }
 {
     let b = reach.intersect(clip);
     if b.is_empty() {
-        return Area {
-            x0: 0,
-            y0: 0,
-            x1: 0,
-            y1: 0,
-        };
+        Area::NONE
+    } else {
+        Area::from(b)
     }
-    area_of(b)
 }
 
 pub fn larger(a: usize, b: usize) -> usize
     ensures { result ≡ max a b }
 {
-    if a < b { b } else { a }
-}
-
-fn smaller(a: usize, b: usize) -> usize
-    ensures { result ≡ min a b }
-{
-    if b < a { b } else { a }
+    a.max(b)
 }
 
 // v brought to hi or below, and then to lo or above.
 pub fn between(v: usize, lo: usize, hi: usize) -> usize
     ensures { result ≡ max lo (min v hi) }
 {
-    larger(lo, smaller(v, hi))
+    v.min(hi).max(lo)
 }
 
-// The number that a pitch is refused with, for a canvas of w columns: 15, or 0.
+// A pitch for a canvas of w columns: refused with 15 outside its range.
+#[tactic(auto, unfolding(crate::specs::Frame::pitch_number, crate::specs::Frame::pitch_ok))]
+pub fn check_pitch(w: usize, pitch: usize) -> Result<(), Refusal>
+    ensures { number_of result ≡ pitch_number w pitch }
+{
+    ensure((w <= pitch) & (pitch <= 4096), Refusal::Pitch)
+}
+
+// px of n words, in rows of `pitch` words, for a canvas of w columns and h rows: refused with 15, then with 8.
+#[tactic(auto, unfolding(crate::specs::Frame::frame_number))]
+pub fn check_frame(w: usize, h: usize, pitch: usize, n: usize) -> Result<(), Refusal>
+    requires { h ≤ 65535 }
+    ensures { number_of result ≡ frame_number w h pitch n }
+{
+    check_pitch(w, pitch)?;
+    ensure(n == pitch * h, Refusal::Pixels)
+}
+
+// The number of `check_pitch`, 0 where it passes.
 pub fn pitch_number(w: usize, pitch: usize) -> u32
     ensures { result ≡ pitch_number w pitch }
 {
-    let ok = (w <= pitch) & (pitch <= 4096);
-    if ok { 0 } else { 15 }
+    number(check_pitch(w, pitch))
 }
 
-// The number that px of n words is refused with, in rows of `pitch` words, for a canvas of w columns and h rows: 15, then 8, or
-// 0.
+// The number of `check_frame`, 0 where it passes.
 pub fn frame_number(w: usize, h: usize, pitch: usize, n: usize) -> u32
     requires { h ≤ 65535 }
     ensures { result ≡ frame_number w h pitch n }
 {
-    let number = pitch_number(w, pitch);
-    if number != 0 {
-        return number;
-    }
-    if n == pitch * h { 0 } else { 8 }
+    number(check_frame(w, h, pitch, n))
 }
 
 impl Span {

@@ -9,6 +9,7 @@ use lib.Signed.{le_z, lt_z}
 use lib.Dec.{leb, ltb}
 use borrow.Author.Tests.{leb-true, leb-false, ltb-true, ltb-false, le-leb, lt-leb, lt-ltb, le-ltb}
 use Rattle.geom.specs.Int.{up, down, max_z, min_z}
+use Rattle.std.specs.Int.{int_max, int_min}
 use Rattle.geom.proofs.Bools.{split}
 
 pub le_z_true : (a b : ℤ) → le_z a b ≡ true → up a + down b ≤ up b + down a
@@ -103,6 +104,27 @@ min_left a b = split (le_z a b) (λ t. le_z (cond t a b) a ≡ true) (λ e. omeg
 pub min_right : (a b : ℤ) → le_z (min_z a b) b ≡ true
 unfolding min_z
 min_right a b = split (le_z a b) (λ t. le_z (cond t a b) b ≡ true) (λ e. e) (λ e. omega order_z)
+
+-- they are those of `max` and `min`
+pub max_is : (a b : ℤ) → int_max a b ≡ max_z a b
+unfolding max_z
+max_is a b = go (lt_z b a) (le_z a b) refl refl
+  where
+    go : (s t : Bool) → lt_z b a ≡ s → le_z a b ≡ t → cond s a b ≡ cond t b a
+    go true true p q = absurd (omega order_z)
+    go true false p q = refl
+    go false true p q = refl
+    go false false p q = absurd (omega order_z)
+
+pub min_is : (a b : ℤ) → int_min a b ≡ min_z a b
+unfolding min_z
+min_is a b = go (lt_z b a) (le_z a b) refl refl
+  where
+    go : (s t : Bool) → lt_z b a ≡ s → le_z a b ≡ t → cond s b a ≡ cond t a b
+    go true true p q = absurd (omega order_z)
+    go true false p q = refl
+    go false true p q = refl
+    go false false p q = absurd (omega order_z)
 
 -- what holds of both holds of the larger, and of the smaller
 pub max_by : (P : ℤ → Type 0) (a b : ℤ) → P a → P b → P (max_z a b)

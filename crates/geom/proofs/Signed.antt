@@ -13,7 +13,9 @@ use mir.Syntax.{w32, w64}
 use mir.Val.{Fits, to_z, of_z}
 use mir.ValLaws.{to_z-of_z}
 use Rattle.geom.proofs.Bools.{same_test}
-use Rattle.geom.specs.Int.{up, eq_z}
+use Rattle.std.specs.Int.{int_max, int_min}
+use Rattle.geom.specs.Int.{up, eq_z, max_z, min_z}
+use Rattle.geom.proofs.Int.{max_is, min_is}
 
 -- z as a need has it
 abbrev pub Kept : ℤ → Type 0
@@ -22,6 +24,14 @@ Kept z = to_z w32 (of_z w32 z) ≡ z
 -- the bound is `c.fits.x.sfits` of a parameter, `c.f.ok` of a call's result, `c.struct_told.given.0.1` of a struct's first field
 pub kept : (z : ℤ) → mag z < 2147483648 → Kept z
 kept z h = to_z-of_z w32 z (record { sfits = h })
+
+-- `a.max(b)` and `a.min(b)` of two such numbers
+module _ {r a b : ℤ} (h : Kept a) (k : Kept b) where
+  pub larger : r ≡ int_max (to_z w32 (of_z w32 a)) (to_z w32 (of_z w32 b)) → r ≡ max_z a b
+  larger e = rw (h, k) at e ∙ max_is a b
+
+  pub smaller : r ≡ int_min (to_z w32 (of_z w32 a)) (to_z w32 (of_z w32 b)) → r ≡ min_z a b
+  smaller e = rw (h, k) at e ∙ min_is a b
 
 -- a test `a == b` is one of the two numbers' bits
 pub eq_bits : (a b : ℤ) → mag a < 2147483648 → mag b < 2147483648 → eqb (of_z w32 a) (of_z w32 b) ≡ eq_z a b

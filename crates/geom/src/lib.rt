@@ -4,7 +4,7 @@
 pub mod checks;
 
 ghost use Rattle.std.specs.Prelude.{◌≡◌, ◌&&◌};
-ghost use Rattle.geom.specs.Int.{up, max_z, min_z};
+ghost use Rattle.geom.specs.Int.{up};
 ghost use Rattle.geom.specs.Box as Box;
 ghost use Rattle.geom.specs.Box.{box_of, meet, empty};
 ghost use Rattle.geom.specs.Plane.{pt_of, rect_of, right_of, bottom_of, cx_of, cy_of, inset_of, offset_of, intersect_of, union_of};
@@ -153,20 +153,6 @@ impl Rect {
     }
 }
 
-// The larger of two numbers.
-pub fn max_i(a: i32, b: i32) -> i32
-    ensures { result ≡ max_z a b }
-{
-    if a <= b { b } else { a }
-}
-
-// The smaller of two numbers.
-pub fn min_i(a: i32, b: i32) -> i32
-    ensures { result ≡ min_z a b }
-{
-    if a <= b { a } else { b }
-}
-
 // A number as an index: 0 where it is negative.
 pub fn nat_of(z: i32) -> usize
     ensures { result ≡ up z }
@@ -192,10 +178,10 @@ impl IRect {
     pub fn intersect(self, o: IRect) -> IRect
         ensures { result ≡ meet self o }
     {
-        let x0 = max_i(self.x0, o.x0);
-        let y0 = max_i(self.y0, o.y0);
-        let x1 = max_i(min_i(self.x1, o.x1), x0);
-        let y1 = max_i(min_i(self.y1, o.y1), y0);
+        let x0 = self.x0.max(o.x0);
+        let y0 = self.y0.max(o.y0);
+        let x1 = self.x1.min(o.x1).max(x0);
+        let y1 = self.y1.min(o.y1).max(y0);
         IRect { x0, y0, x1, y1 }
     }
 
@@ -221,22 +207,23 @@ impl IRect {
 fn around(a: IRect, b: IRect) -> IRect
     ensures { result ≡ Box.around a b }
 {
-    let x0 = min_i(a.x0, b.x0);
-    let y0 = min_i(a.y0, b.y0);
-    let x1 = max_i(a.x1, b.x1);
-    let y1 = max_i(a.y1, b.y1);
+    let x0 = a.x0.min(b.x0);
+    let y0 = a.y0.min(b.y0);
+    let x1 = a.x1.max(b.x1);
+    let y1 = a.y1.max(b.y1);
     IRect { x0, y0, x1, y1 }
 }
 
 // The smallest box around two, an empty one counting for nothing.
+#[tactic(auto, unfolding(crate::specs::Box::join))]
 pub fn join(a: IRect, b: IRect) -> IRect
     ensures { result ≡ Box.join a b }
 {
     if a.is_empty() {
-        return b;
+        b
+    } else if b.is_empty() {
+        a
+    } else {
+        around(a, b)
     }
-    if b.is_empty() {
-        return a;
-    }
-    around(a, b)
 }

@@ -4,7 +4,7 @@ ghost use Rattle.gfx.specs.State.{side_ok, range_in, in_canvas, clip_ok, both_ze
 ghost use Rattle.gfx.specs.Calls.{raised, size_number, new_number};
 
 use draw::frame_number;
-use geom::{IRect, max_i, nat_of};
+use geom::{IRect, nat_of};
 
 // A side is 1 to 2,048.
 pub(crate) fn side_ok(n: i32) -> bool
@@ -62,7 +62,7 @@ pub(crate) fn place_ok(w: i32, h: i32, used: bool, b: IRect) -> bool
 pub(crate) fn raise(n: i32) -> i32
     ensures { result ≡ raised n }
 {
-    max_i(n, 1)
+    n.max(1)
 }
 
 // The number that sides, a pitch and a count of words are refused with, by the least pitch that is in range: 2, 15, 8, or 0.

@@ -8,7 +8,7 @@ ghost use Rattle.panel.specs.Registers.{flags_of, regs_of, fresh_panel, place_in
 ghost use Rattle.panel.specs.Registers.{take_number, pixel_in, WritesCommand, WritesFlags, Takes};
 ghost use Rattle.panel.specs.Registers as Registers;
 
-use draw::area_of;
+use draw::Area;
 use geom::IRect;
 use gfx::Canvas;
 use sheet::u16_at;
@@ -67,7 +67,7 @@ fn place_in(b: IRect, x: usize, y: usize, l: usize) -> bool
     requires { (x < 65536) × (l < 65536) }
     ensures { result ≡ place_in b x y l }
 {
-    let a = area_of(b);
+    let a = Area::from(b);
     let across = (a.x0 <= x) & (x < a.x1);
     let down = (a.y0 <= y) & (y < a.y1);
     (across & down) & (x + l == a.x1)
@@ -87,7 +87,7 @@ fn finished(b: IRect) -> Panel
 fn row_start(f: u8, y: usize, b: IRect) -> Panel
     ensures { result ≡ Registers.row_start f y b }
 {
-    let a = area_of(b);
+    let a = Area::from(b);
     let l = less(a.x1, a.x0);
     Panel {
         regs: regs_of(f, a.x0, y, l),
@@ -102,7 +102,7 @@ fn loaded(b: IRect) -> Panel
     if b.is_empty() {
         return finished(b);
     }
-    let a = area_of(b);
+    let a = Area::from(b);
     row_start(1, a.y0, b)
 }
 
@@ -246,7 +246,7 @@ impl Panel {
         }
         let held = self.held;
         let y = self.row() + 1;
-        let a = area_of(held);
+        let a = Area::from(held);
         if y < a.y1 {
             return row_start(self.flags(), y, held);
         }

@@ -1,36 +1,23 @@
 -- `geom::around` meets its contract. Assumes nothing.
+use Rattle.std.proofs.Common.{rules}
 use Rattle.geom.specs.Box.{around}
-use Rattle.geom.proofs.Signed.{kept}
+use Rattle.geom.proofs.Signed.{Kept, kept, larger, smaller}
 use Rattle.geom.proofs.around.Goals as goal
-
-pub min_i-x0-requires : goal.min_i-x0-requires
-min_i-x0-requires c = tt
-
-pub min_i-y0-requires : goal.min_i-y0-requires
-min_i-y0-requires c = tt
-
-pub max_i-x1-requires : goal.max_i-x1-requires
-max_i-x1-requires c = tt
-
-pub max_i-y1-requires : goal.max_i-y1-requires
-max_i-y1-requires c = tt
 
 pub returns : goal.returns
 unfolding around
 returns c =
-    let c3 = c.before.before.before in
-    let c6 = c3.before.before.before in
-    let c9 = c6.before.before.before in
-    let a = c9.args.a in
-    let b = c9.args.b in
-    let g = c9.struct_told-1.given in
-    let h = c9.struct_told-2-1.given in
-    let x0 = kept c9.min_i-x0.result c9.min_i-x0.type_inv in
-    let y0 = kept c6.min_i-y0.result c6.min_i-y0.type_inv in
-    let x1 = kept c3.max_i-x1.result c3.max_i-x1.type_inv in
-    let y1 = kept c.max_i-y1.result c.max_i-y1.type_inv in
-    let e9 = simp (kept a.x0 g.0.1, kept b.x0 h.0.1) at c9.min_i-x0.ensures in
-    let e6 = simp (kept a.y0 g.1.0.1, kept b.y0 h.1.0.1) at c6.min_i-y0.ensures in
-    let e3 = simp (kept a.x1 g.1.1.0.1, kept b.x1 h.1.1.0.1) at c3.max_i-x1.ensures in
-    let e0 = simp (kept a.y1 g.1.1.1.0.1, kept b.y1 h.1.1.1.0.1) at c.max_i-y1.ensures in
-    simp (x0, y0, x1, y1) (simp (e0, e3, e6, e9))
+    let a = c.args.a in
+    let b = c.args.b in
+    let s : Kept a.x0 × Kept a.y0 × Kept a.x1 × Kept a.y1 = search rules in
+    let t : Kept b.x0 × Kept b.y0 × Kept b.x1 × Kept b.y1 = search rules in
+    rw (
+      kept c.min-x0.result c.min-x0.type_inv,
+      kept c.min-y0.result c.min-y0.type_inv,
+      kept c.max-x1.result c.max-x1.type_inv,
+      kept c.max-y1.result c.max-y1.type_inv,
+      smaller s.0 t.0 c.min-x0.ensures.value,
+      smaller s.1 t.1 c.min-y0.ensures.value,
+      larger s.2 t.2 c.max-x1.ensures.value,
+      larger s.3 t.3 c.max-y1.ensures.value,
+    )

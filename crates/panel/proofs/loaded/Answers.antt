@@ -10,4 +10,4 @@ returns-then-is_empty c = rw (c.finished.ensures, sym c.is_empty.ensures ∙ c.i
 pub returns : goal.returns
 unfolding loaded
 returns c =
-    rw (c.row_start.ensures, c.area_of-a.ensures, sym c.is_empty.ensures ∙ c.if-is_empty.false)
+    rw (c.row_start.ensures, c.from-a.ensures, sym c.is_empty.ensures ∙ c.if-is_empty.false)

@@ -7,4 +7,4 @@ pub returns : goal.returns
 unfolding place_in
 returns c =
     let s = c.args in
-    rw (c.area_of-a.ensures, in_pixel s.b s.x s.y)
+    rw (c.from-a.ensures, in_pixel s.b s.x s.y)

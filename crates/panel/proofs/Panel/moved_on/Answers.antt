@@ -12,12 +12,12 @@ pub returns-then-y-a : goal.returns-then-y-a
 unfolding moved_on
 returns-then-y-a c =
     let one = le-ltb 1 _ (rw c.pixels_left.ensures.0 at c.if-pixels_left-gt1.false) in
-    let below = lt-ltb _ _ (rw (c.row-y.ensures.0, c.area_of-a.ensures) at c.if-y-a.true) in
+    let below = lt-ltb _ _ (rw (c.row-y.ensures.0, c.from-a.ensures) at c.if-y-a.true) in
     rw (c.row_start.ensures, c.flags.ensures, c.row-y.ensures.0, one, below)
 
 pub returns : goal.returns
 unfolding moved_on
 returns c =
     let one = le-ltb 1 _ (rw c.pixels_left.ensures.0 at c.if-pixels_left-gt1.false) in
-    let last = le-ltb _ _ (rw (c.row-y.ensures.0, c.area_of-a.ensures) at c.if-y-a.false) in
+    let last = le-ltb _ _ (rw (c.row-y.ensures.0, c.from-a.ensures) at c.if-y-a.false) in
     rw (c.finished.ensures, one, last)
