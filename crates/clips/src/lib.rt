@@ -13,20 +13,19 @@ ghost use Rattle.clips.specs.States.{state_in, start_of, state_after, is_shape};
 use geom::IRect;
 use gfx::Canvas;
 use items::rect_of;
-use sheet::{byte_at, u16_at};
+use sheet::{Kind, kind_at, u16_at};
 
 // A canvas with a first clip and nothing saved.
+#[tactic(auto, unfolding(crate::specs::States::state_in, geom::specs::Box::no_box))]
 pub fn state_in(w: i32, h: i32, pitch: usize, first: IRect) -> Canvas
     ensures { result ≡ state_in w h pitch first }
 {
-    let zero = IRect::ZERO;
-    let saved = [zero; 16];
     Canvas {
         w,
         h,
         pitch,
         clip: first,
-        saved,
+        saved: [IRect::ZERO; 16],
         depth: 0,
     }
 }
@@ -40,6 +39,7 @@ fn side(s: &[u8], at: usize) -> i32
 }
 
 // The whole canvas of a sheet.
+#[tactic(auto, unfolding(redraw::specs::Sheet::canvas))]
 pub fn canvas_of(s: &[u8]) -> IRect
     ensures { result ≡ canvas (sheet_of s.now) }
 {
@@ -57,30 +57,25 @@ pub fn first_state(s: &[u8], pitch: usize, first: IRect) -> Canvas
 pub fn start_state(s: &[u8]) -> Canvas
     ensures { result ≡ start_of s.now }
 {
-    let first = canvas_of(s);
-    first_state(s, u16_at(s, 0), first)
+    first_state(s, u16_at(s, 0), canvas_of(s))
 }
 
 // Whether the item that some bytes are is a shape: neither a push nor a pop.
+#[tactic(auto, using(sheet::proofs::Tables::no_kind), unfolding(items::specs::Items::read_item, items::specs::Format::drawn_as, crate::specs::States::is_shape))]
 pub fn is_shape(b: &[u8]) -> bool
     ensures { result ≡ is_shape (item_in b.now) }
 {
-    let kind = byte_at(b, 0);
-    match kind {
-        1 => false,
-        2 => false,
-        0 | 3..=255 => true,
-    }
+    !matches!(kind_at(b, 0), Ok(Kind::Push | Kind::Pop))
 }
 
 // The state after the item that some bytes are: a push or a pop alters it.
+#[tactic(auto, using(sheet::proofs::Tables::no_kind), unfolding(items::specs::Items::read_item, crate::specs::States::state_after))]
 pub fn state_after(b: &[u8], canvas: Canvas) -> Canvas
     ensures { result ≡ state_after (item_of b.now) canvas }
 {
-    let kind = byte_at(b, 0);
-    match kind {
-        1 => canvas.push_clip(rect_of(b)).canvas,
-        2 => canvas.pop_clip().canvas,
-        0 | 3..=255 => canvas,
+    match kind_at(b, 0) {
+        Ok(Kind::Push) => canvas.push_clip(rect_of(b)).canvas,
+        Ok(Kind::Pop) => canvas.pop_clip().canvas,
+        _ => canvas,
     }
 }

@@ -11,7 +11,7 @@ use Rattle.geom.proofs.Bools.{split}
 use Rattle.sheet.specs.Kinds.{length_ok, points_ok, bytes_ok, floats_ok, saved_ok, item_number}
 use Rattle.sheet.specs.Check as checks
 use Rattle.sheet.specs.Check.{size_ok, header_ok, pairs_ok, head_number, number_at, depth_at, count_of, sheet_check, verdict}
-use Rattle.sheet.specs.declared.check.Verdict.{Verdict}
+use Rattle.sheet.specs.Check.{Verdict}
 use Rattle.redraw.specs.Sheet.{Sheet, Reading, read, refused}
 use Rattle.items.specs.Format.{sheet_of, reading}
 

@@ -1,7 +1,7 @@
 // The items of a sheet as values. Reading is total: past the end a byte is 0.
 #![tactic(auto)]
 
-ghost use Rattle.std.specs.Prelude.{◌≡◌, ◌<◌, min};
+ghost use Rattle.std.specs.Prelude.{◌≡◌, ◌+◌, ◌<◌, min};
 ghost use Rattle.sheet.specs.Check.{bytes_at};
 ghost use Rattle.items.specs.Items.{read_color, read_pt, read_rect, read_paint, read_fill, read_stroke, read_line, read_poly};
 ghost use Rattle.items.specs.Items.{read_shadow, read_chain, read_item, item_of, Lies, coords_from, ground_of};
@@ -9,7 +9,8 @@ ghost use Rattle.items.specs.Items.{read_shadow, read_chain, read_item, item_of,
 use color::Color;
 use geom::{Pt, Rect};
 use paints::Paint;
-use sheet::{byte_at, f32_at, u16_at};
+use sheet::{Kind, PaintKind, byte_at, f32_at, kind_at, paint_kind_at, u16_at};
+use std::ops::Range;
 
 pub mod reaches;
 pub mod reader;
@@ -118,28 +119,28 @@ pub fn rect_of(b: &[u8]) -> Rect
     read_rect(b, 4)
 }
 
+#[tactic(auto, unfolding(crate::specs::Items::read_paint))]
 fn read_paint(s: &[u8], p: usize) -> Paint
     requires { p < 131000 }
     ensures { result ≡ read_paint s.now p }
 {
-    let kind = byte_at(s, p);
     let c0 = read_color(s, p + 4);
     let c1 = read_color(s, p + 8);
-    match kind {
-        0 => Paint::Solid(c0),
-        1 => Paint::VGrad {
+    match paint_kind_at(s, p) {
+        Ok(PaintKind::Solid) => Paint::Solid(c0),
+        Ok(PaintKind::VGrad) => Paint::VGrad {
             y0: f32_at(s, p + 12),
             y1: f32_at(s, p + 16),
             c0,
             c1,
         },
-        2 => Paint::Linear {
+        Ok(PaintKind::Linear) => Paint::Linear {
             p0: read_pt(s, p + 12),
             p1: read_pt(s, p + 20),
             c0,
             c1,
         },
-        3..=255 => Paint::Radial {
+        Ok(PaintKind::Radial) | Err(_) => Paint::Radial {
             c: read_pt(s, p + 12),
             r: f32_at(s, p + 20),
             c0,
@@ -221,80 +222,67 @@ fn read_chain(s: &[u8], p: usize) -> Item
 pub fn coords(b: &[u8], from: u8) -> [f32; 128]
     ensures { result ≡ coords_from b.now from 128 }
 {
-    let at = from as usize;
     let mut xs = [0.0; 128];
-    for i in 0..128 {
-        xs[i] = f32_at(b, at + 4 * i);
+    for (i, x) in xs.iter_mut().enumerate() {
+        *x = f32_at(b, from as usize + 4 * i);
     }
     xs
 }
 
 // The item that starts at p.
+#[tactic(auto, using(sheet::proofs::Tables::no_kind), unfolding(crate::specs::Items::read_item))]
 fn read_item(s: &[u8], p: usize) -> Item
     requires { p < 65536 }
     ensures { result ≡ read_item s.now p }
 {
-    let kind = byte_at(s, p);
-    match kind {
-        1 => Item::Push(read_rect(s, p + 4)),
-        2 => Item::Pop,
-        3 => read_fill(s, p),
-        4 => read_stroke(s, p),
-        5 => read_line(s, p),
-        6 => read_poly(s, p),
-        7 => read_shadow(s, p),
-        8 => read_chain(s, p),
-        0 | 9..=255 => Item::Unknown,
+    match kind_at(s, p) {
+        Ok(Kind::Push) => Item::Push(read_rect(s, p + 4)),
+        Ok(Kind::Pop) => Item::Pop,
+        Ok(Kind::Fill) => read_fill(s, p),
+        Ok(Kind::Stroke) => read_stroke(s, p),
+        Ok(Kind::Line) => read_line(s, p),
+        Ok(Kind::Poly) => read_poly(s, p),
+        Ok(Kind::Shadow) => read_shadow(s, p),
+        Ok(Kind::Chain) => read_chain(s, p),
+        Err(_) => Item::Unknown,
     }
 }
 
-fn least(a: usize, b: usize) -> usize
-    ensures { result ≡ min a b }
+// Where `len` bytes from a place on lie among n, cut to the end.
+fn cut(at: usize, len: usize, n: usize) -> Range<usize>
+    requires { (at < 65536) × (len < 65536) }
+    ensures { (result.start ≡ min at n) × (result.end ≡ min (at + len) n) }
 {
-    if a < b { a } else { b }
-}
-
-// Where the bytes of an item lie.
-#[derive(Clone, Copy)]
-struct Part {
-    from: usize,
-    to: usize,
+    at.min(n)..(at + len).min(n)
 }
 
 // Where the bytes of the item k lie, of whose pair bytes may lie past the end.
-fn cut_part(s: &[u8], k: u16) -> Part
-    ensures { Lies s.now k result.from result.to }
+#[tactic(auto, using(crate::proofs::Parts::lies))]
+fn cut_part(s: &[u8], k: u16) -> Range<usize>
+    ensures { Lies s.now k result.start result.end }
 {
-    let at = u16_at(s, 12 + 4 * k as usize);
-    let len = u16_at(s, 14 + 4 * k as usize);
-    let from = least(at, s.len());
-    let to = least(at + len, s.len());
-    Part { from, to }
+    let pair = 12 + 4 * k as usize;
+    cut(u16_at(s, pair), u16_at(s, pair + 2), s.len())
 }
 
 // Where the bytes of the item k lie; no byte past the sheet's end is one of them. One test for the pair, so that none of its
 // bytes needs its own.
-fn part_at(s: &[u8], k: u16) -> Part
-    ensures { Lies s.now k result.from result.to }
+#[tactic(auto, using(crate::proofs::Parts::lies))]
+fn part_at(s: &[u8], k: u16) -> Range<usize>
+    ensures { Lies s.now k result.start result.end }
 {
-    if s.len() < 16 + 4 * k as usize {
+    let pair = 12 + 4 * k as usize;
+    if s.len() < pair + 4 {
         return cut_part(s, k);
     }
-    let at = u16_at(s, 12 + 4 * k as usize);
-    let len = u16_at(s, 14 + 4 * k as usize);
-    let from = least(at, s.len());
-    let to = least(at + len, s.len());
-    Part { from, to }
+    cut(u16_at(s, pair), u16_at(s, pair + 2), s.len())
 }
 
 // The bytes of the item k, as a part of the sheet.
 pub(crate) fn bytes_at(s: &[u8], k: u16) -> &[u8]
     ensures { result.now ≡ bytes_at s.now k }
 {
-    let p = part_at(s, k);
-    let from = p.from;
-    let to = p.to;
-    &s[from..to]
+    &s[part_at(s, k)]
 }
 
 // The item that some bytes are.
