@@ -10,6 +10,10 @@ use native.Mathlib.Omega.{arith}
 use borrow.Author.Tests.{eq-eqb, ne_eqb}
 use lib.Dec.{eqb, leb}
 use lib.ListN.{length}
+use Rattle.std.specs.Prelude.{⊤, Ok, Err}
+use Rattle.std.specs.declared.result.Result.{Result}
+use Rattle.geom.specs.Refusals.{tested}
+use Rattle.geom.specs.declared.checks.Refusal.{Refusal}
 use Rattle.geom.specs.Box.{no_box, meet, join, join_all, hull}
 use Rattle.geom.specs.declared.IRect.{IRect}
 use Rattle.geom.proofs.Bools.{and_left, and_right}
@@ -23,8 +27,17 @@ use Rattle.items.specs.Format.{kind, format, item_in}
 use Rattle.gfx.specs.declared.Canvas.{Canvas}
 use Rattle.clips.specs.States.{start_of, state_after, is_shape}
 use Rattle.clips.proofs.Shapes.{shape_own, shape_leaves}
-use Rattle.compare.specs.declared.Difference.{Difference}
-use Rattle.compare.specs.Compare.{change_from, found, change_number, change_box, told, changed_by, settled, same_at}
+use Rattle.compare.specs.Compare.{Difference, change_from, found, change_number, change_box, told, changed_by, settled, same_at}
+
+-- ---- a test and what it returned
+
+pub held : (ok : Bool) (r : Refusal) {x : Result ⊤ Refusal} {u : ⊤} → x ≡ tested ok r → x ≡ Ok u → ok ≡ true
+held true r t e = refl
+held false r t e = let h = sym e ∙ t in cc
+
+pub failed : (ok : Bool) (r : Refusal) {x : Result ⊤ Refusal} {e : Refusal} → x ≡ tested ok r → x ≡ Err e → ok ≡ false
+failed true r t f = let h = sym f ∙ t in cc
+failed false r t f = refl
 
 -- ---- what differences tell
 

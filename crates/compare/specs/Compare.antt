@@ -1,16 +1,18 @@
 -- How two sheets differ (document 01, a patch; document 02, 2026-01 and 2026-09), by any bytes. Where the new sheet is accepted
 -- it is redraw's `change` at the format of items (proofs/Walks). No call of the library cites this file: `changed`, which `patch`
 -- calls, does. Assumes nothing.
-use Rattle.std.specs.Prelude.{ℕ, zero, suc, ◌+◌, Bool, cond, List, [], eqb, leb}
+use Rattle.std.specs.Prelude.{ℕ, zero, suc, ◌+◌, Bool, cond, List, [], eqb, leb, Ok, Err}
+use Rattle.std.specs.declared.result.Result.{Result}
 use Rattle.geom.specs.Box.{no_box, hull}
+use Rattle.geom.specs.Refusals.{code}
 use Rattle.geom.specs.declared.IRect.{IRect}
+use Rattle.geom.specs.declared.checks.Refusal.{Refusal}
 use Rattle.gfx.specs.declared.Canvas.{Canvas}
 use Rattle.sheet.specs.Check.{count_of, bytes_at}
 use Rattle.redraw.specs.Sheet.{Change, other, shapes, both_shapes, few, reaches}
 use Rattle.items.specs.Items.{item_of}
 use Rattle.items.specs.Format.{reach_of, kind, item_in, same_item}
 use Rattle.clips.specs.States.{start_of, state_after}
-use Rattle.compare.specs.declared.Difference.{Difference}
 
 -- ---- item by item
 
@@ -43,11 +45,21 @@ unfoldable pub change_box : IRect → Change (List ℕ) → IRect
 change_box frame other = no_box
 change_box frame (shapes l) = cond (few l) (hull frame (reaches kind.reach l)) no_box
 
+-- the number that a patch is refused with, 0 where it is not, and the box that it redraws
+pub record Difference : Type 0 where
+  pub number : ℕ
+  pub area : IRect
+
 abbrev pub told : ℕ → IRect → Difference
 told number area = record { number = number; area = area }
 
 abbrev pub changed_by : IRect → Change (List ℕ) → Difference
 changed_by frame c = told (change_number c) (change_box frame c)
+
+-- what a result tells: 0 and the box, or the number of a refusal and no box
+abbrev pub told_by : Result IRect Refusal → Difference
+told_by (Ok area) = told 0 area
+told_by (Err r) = told (code r) no_box
 
 -- what n pairs of shapes tell, with the box around what their reaches, under their clips, have in the canvas
 abbrev pub settled : ℕ → IRect → Difference

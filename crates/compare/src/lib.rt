@@ -9,9 +9,10 @@ ghost use Rattle.redraw.specs.Sheet.{canvas, same_header};
 ghost use Rattle.items.specs.Items.{item_of};
 ghost use Rattle.items.specs.Format.{same_bytes, item_in, sheet_of};
 ghost use Rattle.clips.specs.States.{start_of, state_after, is_shape};
-ghost use Rattle.compare.specs.Compare.{same_at, change_from, found, reach_at, told, settled, changed_by};
+ghost use Rattle.compare.specs.Compare.{same_at, change_from, found, reach_at, told_by, settled, changed_by};
 
 use clips::{canvas_of, is_shape, start_state, state_after};
+use geom::checks::{Refusal, ensure};
 use geom::{IRect, join};
 use gfx::Canvas;
 use items::ground;
@@ -19,28 +20,16 @@ use items::reaches::reach;
 use items::reader::item_bytes;
 use sheet::u16_at;
 
-// What a patch is refused with, 10, 14 or 0, and the box that it redraws.
-#[derive(Clone, Copy)]
-pub struct Difference {
-    pub number: u32,
-    pub area: IRect,
-}
-
-// Whether two runs of bytes are the same. The loop has no branch, so that the compiler does several bytes at once.
+// Whether two runs of bytes are the same.
+#[tactic(auto, using(crate::proofs::Bytes::eq_same))]
 pub fn same_bytes(a: &[u8], b: &[u8]) -> bool
     ensures { result ≡ same_bytes a.now b.now }
 {
-    if a.len() != b.len() {
-        return false;
-    }
-    let mut same = true;
-    for i in 0..a.len() {
-        same = same & (a[i] == b[i]);
-    }
-    same
+    a == b
 }
 
 // Whether the items k of two sheets are the same.
+#[tactic(auto, using(items::proofs::Lawful::same_in), unfolding(crate::specs::Compare::same_at))]
 fn same_at(old: &[u8], new: &[u8], k: u16) -> bool
     ensures { result ≡ same_at old.now new.now k }
 {
@@ -58,7 +47,7 @@ fn shape_at(s: &[u8], k: u16) -> bool
 fn both_shapes(old: &[u8], new: &[u8], k: u16) -> bool
     ensures { result ≡ is_shape (item_in (bytes_at old.now k)) && is_shape (item_in (bytes_at new.now k)) }
 {
-    shape_at(old, k) & shape_at(new, k)
+    shape_at(old, k) && shape_at(new, k)
 }
 
 // The reach of the item k.
@@ -92,34 +81,21 @@ fn state_at(s: &[u8], k: u16, state: Canvas) -> Canvas
     state_after(item_bytes(s, k), state)
 }
 
-fn refusal(number: u32) -> Difference
-    ensures { result ≡ told number no_box }
-{
-    Difference {
-        number,
-        area: IRect::new(0, 0, 0, 0),
-    }
-}
-
 // What so many pairs of shapes that differ tell, by the box around what their reaches, under their clips, have in the canvas; an
 // empty one is four zeros.
-fn settled(count: usize, area: IRect) -> Difference
-    ensures { result ≡ settled count (Box.join area no_box) }
+#[tactic(auto, unfolding(geom::specs::Box::no_box))]
+fn settled(count: u16, area: IRect) -> Result<IRect, Refusal>
+    ensures { told_by result ≡ settled count (Box.join area no_box) }
 {
-    if 32 < count {
-        return refusal(14);
-    }
-    Difference {
-        number: 0,
-        area: join(area, IRect::new(0, 0, 0, 0)),
-    }
+    ensure(count <= 32, Refusal::Many)?;
+    Ok(join(area, IRect::new(0, 0, 0, 0)))
 }
 
 // What two sheets of n items each tell. A push or a pop that differs is refused by 10, wherever it stands; so the loop goes on
-// past 32 shapes, and the clip is that of both sheets all along.
-fn changed_in(old: &[u8], new: &[u8], n: usize) -> Difference
-    requires { n < 65536 }
-    ensures { result ≡ changed_by (canvas (sheet_of new.now))
+// past 32 shapes, and the clip is that of both sheets all along. A shape leaves the state, which is copied at a push or a pop
+// alone.
+fn changed_in(old: &[u8], new: &[u8], n: u16) -> Result<IRect, Refusal>
+    ensures { told_by result ≡ changed_by (canvas (sheet_of new.now))
         (change_from old.now new.now n 0 (start_of new.now)) }
 {
     let canvas = canvas_of(new);
@@ -127,39 +103,32 @@ fn changed_in(old: &[u8], new: &[u8], n: usize) -> Difference
     let mut area = IRect::new(0, 0, 0, 0);
     let mut count = 0;
     for k in 0..n {
-        if same_at(old, new, k as u16) {
-            if shape_at(new, k as u16) {
-                continue;
-            }
-            state = state_at(new, k as u16, state);
-            continue;
+        if !same_at(old, new, k) {
+            ensure(both_shapes(old, new, k), Refusal::Difference)?;
+            area = area_with(area, canvas, state.clip, old, new, k);
+            count += 1;
+        } else if !shape_at(new, k) {
+            state = state_at(new, k, state);
         }
-        if !both_shapes(old, new, k as u16) {
-            return refusal(10);
-        }
-        area = area_with(area, canvas, state.clip, old, new, k as u16);
-        count += 1;
     }
     settled(count, area)
 }
 
-// What two sheets tell of how they differ.
-pub fn changed(old: &[u8], new: &[u8]) -> Difference
-    ensures { result ≡ changed_by (canvas (sheet_of new.now)) (found old.now new.now) }
+// The box that a patch between two sheets redraws, or why it is refused: 10 or 14.
+pub fn changed(old: &[u8], new: &[u8]) -> Result<IRect, Refusal>
+    ensures { told_by result ≡ changed_by (canvas (sheet_of new.now)) (found old.now new.now) }
 {
     let n = u16_at(old, 8);
-    if n != u16_at(new, 8) {
-        return refusal(10);
-    }
-    changed_in(old, new, n)
+    ensure(n == u16_at(new, 8), Refusal::Difference)?;
+    changed_in(old, new, n as u16)
 }
 
 // Whether two sheets agree in width, height and ground.
+#[tactic(auto, unfolding(redraw::specs::Sheet::same_header))]
 pub fn same_header(old: &[u8], new: &[u8]) -> bool
     ensures { result ≡ same_header (sheet_of old.now) (sheet_of new.now) }
 {
-    let wide = u16_at(old, 0) == u16_at(new, 0);
-    let high = u16_at(old, 2) == u16_at(new, 2);
-    let grounds = ground(old).pix() == ground(new).pix();
-    wide & high & grounds
+    u16_at(old, 0) == u16_at(new, 0)
+        && u16_at(old, 2) == u16_at(new, 2)
+        && ground(old).pix() == ground(new).pix()
 }
