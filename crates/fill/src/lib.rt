@@ -10,7 +10,7 @@ ghost use Rattle.color.specs.Colours.{pix_of};
 ghost use Rattle.color.specs.Inks.{inked_of, over_c};
 ghost use Rattle.draw.specs.Draw.{drawn};
 ghost use Rattle.draw.specs.Areas.{SpanFits, AreaFits, DrewSpan, DrewIn};
-ghost use Rattle.gfx.specs.Calls.{ShapeCalled, px_number};
+ghost use Rattle.gfx.specs.Calls.{ShapeCalled, px_number, counted_of};
 ghost use Rattle.paints.specs.declared.Paint.TheVariants.{Solid};
 ghost use Rattle.paints.specs.Paints.{paint_at, centre_of};
 ghost use Rattle.paints.specs.Edges.{edge_of};
@@ -21,6 +21,7 @@ ghost use Rattle.fill.specs.Rows.{ends_of, clamped_of, Cuts, past_of, LevelOf};
 
 use color::{Color, Inked, blend_c, over, put};
 use draw::{Area, Span, clipped};
+use geom::checks::Refusal;
 use geom::{IRect, Rect, float_ok, nat_of};
 use gfx::{Canvas, Counted};
 use paints::{Edge, Paint, along_line, centre, radius, side_cover};
@@ -278,27 +279,27 @@ fn fill_area(px: &mut [u32], pitch: usize, bb: Area, rect: Rect, r: f32, paint: 
     bb.draw(px, pitch, |px, row| fill_row(px, row, s, paint))
 }
 
-// A rounded rectangle under the clip, unless the call is refused.
+// A rounded rectangle under the clip, or the refusal.
+fn try_fill(
+    canvas: Canvas,
+    px: &mut [u32],
+    ok: bool,
+    rect: Rect,
+    r: f32,
+    paint: Paint,
+) -> Result<u64, Refusal>
+    ensures { Filled canvas ok rect r paint px.old (counted_of canvas result) px.new }
+{
+    canvas.check_shape(px.len(), ok)?;
+    let bb = clipped(fill_reach(rect), canvas.clip);
+    Ok(fill_area(px, canvas.pitch, bb, rect, r, paint) as u64)
+}
+
+// The same as the answer of a call.
 fn filled(canvas: Canvas, px: &mut [u32], ok: bool, rect: Rect, r: f32, paint: Paint) -> Counted
     ensures { Filled canvas ok rect r paint px.old result px.new }
 {
-    let number = canvas.shape_number(px.len(), ok);
-    if number != 0 {
-        return Counted {
-            number,
-            canvas,
-            steps: 0,
-        };
-    }
-    let pitch = canvas.pitch;
-    let clip = canvas.clip;
-    let bb = clipped(fill_reach(rect), clip);
-    let steps = fill_area(px, pitch, bb, rect, r, paint) as u64;
-    Counted {
-        number,
-        canvas,
-        steps,
-    }
+    Counted::of(canvas, try_fill(canvas, px, ok, rect, r, paint))
 }
 
 // A rectangle with round corners.
@@ -341,27 +342,21 @@ fn store_box(px: &mut [u32], pitch: usize, bb: Area, v: u32) -> u32
     bb.draw(px, pitch, |px, row| store_span(px, row, v))
 }
 
+// The pixels of the clip set to a colour, or the refusal.
+fn try_ground(canvas: Canvas, px: &mut [u32], c: Color) -> Result<u64, Refusal>
+    ensures { ShapeCalled (px_number canvas (length px.old)) canvas px.old
+        (drawn canvas.pitch canvas.clip canvas.clip (λ _ _ _. pix_of c) px.old) (counted_of canvas result)
+        px.new }
+{
+    canvas.check_px(px.len())?;
+    let bb = clipped(canvas.clip, canvas.clip);
+    Ok(store_box(px, canvas.pitch, bb, c.pix()) as u64)
+}
+
 // The pixels of the clip set to a colour, as a sheet's ground is, whatever its alpha.
 pub fn fill_ground(canvas: Canvas, px: &mut [u32], c: Color) -> Counted
     ensures { ShapeCalled (px_number canvas (length px.old)) canvas px.old
         (drawn canvas.pitch canvas.clip canvas.clip (λ _ _ _. pix_of c) px.old) result px.new }
 {
-    let number = canvas.px_number(px.len());
-    if number != 0 {
-        return Counted {
-            number,
-            canvas,
-            steps: 0,
-        };
-    }
-    let pitch = canvas.pitch;
-    let clip = canvas.clip;
-    let bb = clipped(clip, clip);
-    let v = c.pix();
-    let steps = store_box(px, pitch, bb, v) as u64;
-    Counted {
-        number,
-        canvas,
-        steps,
-    }
+    Counted::of(canvas, try_ground(canvas, px, c))
 }
