@@ -128,6 +128,7 @@ pub fn falloff(a: u8) -> [u32; 97]
 {
     let fractions = on_file();
     let mut lut = [0u32; 97];
+    // By index: with the fractions zipped or mapped the proof does not close.
     for (i, entry) in lut.iter_mut().enumerate() {
         *entry = level(fractions[i], a);
     }
