@@ -133,9 +133,7 @@ fn store_row(px: &mut [u32], pitch: usize, y: usize, w: usize, v: u32)
     ensures { px.new ≡ drawn_in pitch (area 0 y w (y + 1)) (λ _ _ _. v) px.old }
 {
     let row = y * pitch;
-    for x in 0..w {
-        px[row + x] = v;
-    }
+    px[row..row + w].fill(v);
 }
 
 // The first w words of each of h rows set to one value.
@@ -175,14 +173,10 @@ impl Canvas {
     fn places_ok(self) -> bool
         ensures { result ≡ places_ok self 16 }
     {
-        let saved = self.saved;
-        for i in 0..16 {
-            let b = saved[i];
-            if !place_ok(self.w, self.h, i < self.depth, b) {
-                return false;
-            }
-        }
-        true
+        self.saved
+            .iter()
+            .enumerate()
+            .all(|(i, b)| place_ok(self.w, self.h, i < self.depth, *b))
     }
 
     // Whether the sides, the depth and the clip are all right.
@@ -276,9 +270,7 @@ impl Canvas {
     fn same_size(self, w: i32, h: i32) -> bool
         ensures { result ≡ same_size self w h }
     {
-        let a = self.w;
-        let b = self.h;
-        a == raise(w) && b == raise(h)
+        (self.w == raise(w)) & (self.h == raise(h))
     }
 
     // The clip saved, and cut to a box.

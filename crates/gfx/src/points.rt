@@ -19,12 +19,7 @@ pub fn points_ok(pts: &[f32]) -> bool
 pub fn coords_ok(pts: &[f32]) -> bool
     ensures { result ≡ coords_ok pts.now }
 {
-    for i in 0..pts.len() {
-        if !float_ok(pts[i]) {
-            return false;
-        }
-    }
-    true
+    pts.iter().all(|x| float_ok(*x))
 }
 
 // A shape call with points, by whether the other floats given are finite and within 8,192 of 0: refused with 12, 15, 8, 13, then
