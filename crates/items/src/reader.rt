@@ -11,23 +11,25 @@ pub struct Reader<'a> {
     pub next: u16,
 }
 
-// The reader of a sheet, before one of its items.
-pub fn new<'a>(sheet: &'a [u8], next: u16) -> Reader<'a>
-    ensures { (result.sheet ≡ sheet.entry) × (result.next ≡ next) }
-{
-    Reader { sheet, next }
-}
+impl<'a> Reader<'a> {
+    // The reader of a sheet, before one of its items.
+    pub fn new(sheet: &'a [u8], next: u16) -> Self
+        ensures { (result.sheet ≡ sheet.entry) × (result.next ≡ next) }
+    {
+        Reader { sheet, next }
+    }
 
-// The bytes of the next item: a part of the sheet.
-pub fn bytes<'a>(r: Reader<'a>) -> &'a [u8]
-    ensures { result.now ≡ bytes_at r.entry.sheet.now r.entry.next }
-{
-    bytes_at(r.sheet, r.next)
+    // The bytes of the next item: a part of the sheet.
+    pub fn bytes(self) -> &'a [u8]
+        ensures { result.now ≡ bytes_at self.entry.sheet.now self.entry.next }
+    {
+        bytes_at(self.sheet, self.next)
+    }
 }
 
 // The bytes of the item k of a sheet.
 pub fn item_bytes(s: &[u8], k: u16) -> &[u8]
     ensures { result.now ≡ bytes_at s.now k }
 {
-    bytes(new(s, k))
+    Reader::new(s, k).bytes()
 }

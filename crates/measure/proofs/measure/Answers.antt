@@ -1,5 +1,5 @@
 -- `measure::measure` meets its contract, each return by its law. Assumes nothing.
-use mathlib.Core.Path.{sym, ◌∙◌}
+use mathlib.Core.Path.{sym}
 use Rattle.sheet.proofs.Runs.{not_zero}
 use Rattle.measure.proofs.Walks.{refused_room, read_room}
 use Rattle.measure.proofs.measure.Goals as goal
