@@ -18,7 +18,7 @@ fn bump(a: &mut [f32], i: usize, v: f32)
     requires { i < length a.old }
     ensures { a.new ≡ bump_at a.old i v }
 {
-    a[i] = a[i] + v;
+    a[i] += v;
 }
 
 // Adds v to each of the words from i up to e.
@@ -27,7 +27,7 @@ fn bump_run(a: &mut [f32], i: usize, e: usize, v: f32)
     ensures { a.new ≡ bump_run a.old i (e - i) v }
 {
     for w in a[i..e].iter_mut() {
-        *w = *w + v;
+        *w += v;
     }
 }
 

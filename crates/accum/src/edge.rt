@@ -18,7 +18,7 @@ pub struct Edge {
     pub dir: f32,
 }
 
-// Two floats, the second first where it is not above the first.
+// Two floats, exchanged where the first is not below the second.
 fn ordered(x: f32, y: f32) -> (f32, f32)
     ensures { (result.0 ≡ cond (x <ᶠ y) x y) × (result.1 ≡ cond (x <ᶠ y) y x) }
 {

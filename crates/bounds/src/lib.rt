@@ -28,7 +28,8 @@ pub struct PolyBox {
     pub bh: usize,
 }
 
-// What is painted: its box, and the scratch words that it needs. All zeros where nothing is painted.
+// What is painted: its box, and the scratch words that it needs. All zeros where nothing is painted, as `plan_of` (specs/Plans)
+// has it: an Option would be no plainer, since its callers read both off, and answer those zeros.
 #[derive(Clone, Copy)]
 pub struct Plan {
     pub g: PolyBox,

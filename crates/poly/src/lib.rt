@@ -15,6 +15,7 @@ use gfx::{Canvas, Counted, coords_ok, points_number, points_ok};
 use paints::Paint;
 
 // Whether the calls accept such points: an even count of coordinates, of at most 64 points, each within 8,192 of 0.
+#[tactic(auto, unfolding(crate::specs::Poly::poly_ok))]
 fn poly_ok(pts: &[f32]) -> bool
     ensures { result ≡ poly_ok pts.now }
 {

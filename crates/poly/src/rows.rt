@@ -14,6 +14,7 @@ use geom::{IRect, nat_of};
 use paints::{Paint, along_line, centre};
 
 // A signed area as a coverage, 0 to 255. Most of a box lies outside the polygon: there nothing is converted.
+#[tactic(auto, using(crate::proofs::Coverage::below_one), unfolding(crate::specs::Poly::cover_of))]
 fn cover(a: f32) -> u32
     ensures { result ≡ cover_of a }
 {
@@ -37,9 +38,9 @@ fn run_sum(acc: &[f32], i: usize, n: usize) -> f32
     requires { i + n ≤ length acc.now }
     ensures { result ≡ run_sum acc.now i n }
 {
-    let mut a: f32 = 0.0;
+    let mut a = 0.0;
     for v in &acc[i..i + n] {
-        a = a + *v;
+        a += *v;
     }
     a
 }
@@ -65,7 +66,7 @@ fn ink_row<F: Fn(usize, u32, u32) -> Inked>(
     let mut a = run_sum(acc, ls, skip);
     let mut n = 0;
     for x in row.x0..row.x1 {
-        a = a + acc[ls + (skip + (x - row.x0))];
+        a += acc[ls + (skip + (x - row.x0))];
         let cv = cover(a);
         if cv == 0 {
             continue;
