@@ -10,7 +10,7 @@ ghost use Rattle.color.specs.Inks.{inked_of, over_c};
 ghost use Rattle.draw.specs.Draw.{drawn};
 ghost use Rattle.draw.specs.Parts.{reach_all};
 ghost use Rattle.draw.specs.Areas.{clip_to, SpanFits, AreaFits, Drew, DrewSpan};
-ghost use Rattle.gfx.specs.Calls.{CalledCounted, ShapeCalled, shape_number};
+ghost use Rattle.gfx.specs.Calls.{CalledCounted, ShapeCalled, shape_number, counted_of};
 ghost use Rattle.gfx.specs.Points.{points_number};
 ghost use Rattle.paints.specs.Edges.{edge_of};
 ghost use Rattle.line.specs.Lines.{line_reach, segment_of, cover_of, segment_ink, line_ink, line_ok};
@@ -18,8 +18,9 @@ ghost use Rattle.line.specs.Polylines.{point_at, polylined, polyline_steps, chai
 
 use color::{Color, Inked, blend_c, put};
 use draw::{Span, clipped};
+use geom::checks::Refusal;
 use geom::{IRect, Pt, Rect, float_ok, join};
-use gfx::{Canvas, Counted, points_number};
+use gfx::{Canvas, Counted, check_points};
 use paints::{Edge, centre};
 
 // The pixels around the segment, half the width and one more on each side.
@@ -141,27 +142,30 @@ fn line_ok(a: Pt, b: Pt, width: f32) -> bool
     a.in_range() & b.in_range() & float_ok(width)
 }
 
+// A line between two points, or the refusal.
+fn try_line(
+    canvas: Canvas,
+    px: &mut [u32],
+    a: Pt,
+    b: Pt,
+    width: f32,
+    color: Color,
+) -> Result<u64, Refusal>
+    ensures { ShapeCalled (shape_number canvas (length px.old) (line_ok a b width)) canvas px.old
+        (drawn canvas.pitch canvas.clip (line_reach a b width) (line_ink a b width color) px.old) (counted_of canvas result)
+        px.new }
+{
+    canvas.check_shape(px.len(), line_ok(a, b, width))?;
+    Ok(draw_line(px, canvas.pitch, canvas.clip, a, b, width, color) as u64)
+}
+
 // A line between two points.
 pub fn line(canvas: Canvas, px: &mut [u32], a: Pt, b: Pt, width: f32, color: Color) -> Counted
     ensures { ShapeCalled (shape_number canvas (length px.old) (line_ok a b width)) canvas px.old
         (drawn canvas.pitch canvas.clip (line_reach a b width) (line_ink a b width color) px.old) result
         px.new }
 {
-    let number = canvas.shape_number(px.len(), line_ok(a, b, width));
-    if number != 0 {
-        return Counted {
-            number,
-            canvas,
-            steps: 0,
-        };
-    }
-    let clip = canvas.clip;
-    let steps = draw_line(px, canvas.pitch, clip, a, b, width, color) as u64;
-    Counted {
-        number,
-        canvas,
-        steps,
-    }
+    Counted::of(canvas, try_line(canvas, px, a, b, width, color))
 }
 
 // Point i of coordinates x y x y.
@@ -217,25 +221,27 @@ fn draw_lines(
     n
 }
 
+// Lines between successive points, or the refusal.
+fn try_polyline(
+    canvas: Canvas,
+    px: &mut [u32],
+    pts: &[f32],
+    width: f32,
+    color: Color,
+) -> Result<u64, Refusal>
+    ensures { CalledCounted (points_number canvas (length px.old) pts.now (float_ok width)) canvas
+        px.old (polylined canvas.pitch canvas.clip pts.now width color px.old)
+        (polyline_steps canvas.pitch canvas.clip pts.now width color px.old) (counted_of canvas result) px.new }
+{
+    check_points(canvas, px.len(), pts, float_ok(width))?;
+    Ok(draw_lines(px, canvas.pitch, canvas.clip, pts, width, color) as u64)
+}
+
 // Lines between successive points, whose coordinates stand one after another.
 pub fn polyline(canvas: Canvas, px: &mut [u32], pts: &[f32], width: f32, color: Color) -> Counted
     ensures { CalledCounted (points_number canvas (length px.old) pts.now (float_ok width)) canvas
         px.old (polylined canvas.pitch canvas.clip pts.now width color px.old)
         (polyline_steps canvas.pitch canvas.clip pts.now width color px.old) result px.new }
 {
-    let number = points_number(canvas, px.len(), pts, float_ok(width));
-    if number != 0 {
-        return Counted {
-            number,
-            canvas,
-            steps: 0,
-        };
-    }
-    let clip = canvas.clip;
-    let steps = draw_lines(px, canvas.pitch, clip, pts, width, color) as u64;
-    Counted {
-        number,
-        canvas,
-        steps,
-    }
+    Counted::of(canvas, try_polyline(canvas, px, pts, width, color))
 }

@@ -9,7 +9,7 @@ ghost use Rattle.geom.specs.Int.{up};
 ghost use Rattle.draw.specs.Draw.{drawn};
 ghost use Rattle.draw.specs.Held.{Holds};
 ghost use Rattle.draw.specs.Areas.{SpanFits, AreaFits, DrewSpan, DrewIn};
-ghost use Rattle.gfx.specs.Calls.{ShapeCalled, shape_number};
+ghost use Rattle.gfx.specs.Calls.{ShapeCalled, shape_number, counted_of};
 ghost use Rattle.paints.specs.Paints.{centre_of};
 ghost use Rattle.shadow.specs.Shadow.{shadow_ok, shadow_reach, level_of, table, straight_from, straight_upto, corner_from};
 ghost use Rattle.shadow.specs.Shadow.{corner_upto, shade_ink, shadow_ink};
@@ -18,6 +18,7 @@ ghost use Rattle.shadow.specs.Levels.{table_alpha, Faded};
 use color::{Color, over, over_wide};
 use draw::{Area, Span, clipped};
 use falloff::falloff;
+use geom::checks::Refusal;
 use geom::{IRect, Rect, floats_ok, nat_of};
 use gfx::{Canvas, Counted};
 use paints::{Rounded, centre};
@@ -354,6 +355,25 @@ fn shade_area(
     h.shade_box(px, pitch, b, skip)
 }
 
+// The soft shadow of a rounded rectangle, or the refusal.
+fn try_shadow(
+    canvas: Canvas,
+    px: &mut [u32],
+    rect: Rect,
+    r: f32,
+    blur: f32,
+    color: Color,
+    skip: bool,
+) -> Result<u64, Refusal>
+    ensures { ShapeCalled (shape_number canvas (length px.old) (shadow_ok rect r blur)) canvas px.old
+        (drawn canvas.pitch canvas.clip (shadow_reach rect blur color) (shadow_ink rect r blur color skip) px.old)
+        (counted_of canvas result) px.new }
+{
+    canvas.check_shape(px.len(), rect.in_range() & floats_ok(r, blur))?;
+    let b = clipped(shadow_reach(rect, blur, color), canvas.clip);
+    Ok(shade_area(px, canvas.pitch, b, Rounded::of(rect, r), blur, color, skip) as u64)
+}
+
 // The soft shadow of a rounded rectangle; `blur` is half the width of its falloff.
 pub fn shadow_rrect(
     canvas: Canvas,
@@ -368,22 +388,5 @@ pub fn shadow_rrect(
         (drawn canvas.pitch canvas.clip (shadow_reach rect blur color) (shadow_ink rect r blur color skip) px.old)
         result px.new }
 {
-    let ok = rect.in_range() & floats_ok(r, blur);
-    let number = canvas.shape_number(px.len(), ok);
-    if number != 0 {
-        return Counted {
-            number,
-            canvas,
-            steps: 0,
-        };
-    }
-    let pitch = canvas.pitch;
-    let clip = canvas.clip;
-    let b = clipped(shadow_reach(rect, blur, color), clip);
-    let steps = shade_area(px, pitch, b, Rounded::of(rect, r), blur, color, skip) as u64;
-    Counted {
-        number,
-        canvas,
-        steps,
-    }
+    Counted::of(canvas, try_shadow(canvas, px, rect, r, blur, color, skip))
 }

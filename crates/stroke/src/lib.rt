@@ -9,7 +9,7 @@ ghost use Rattle.geom.specs.Int.{up};
 ghost use Rattle.draw.specs.Draw.{drawn};
 ghost use Rattle.draw.specs.Held.{Holds};
 ghost use Rattle.draw.specs.Areas.{SpanFits, DrewSpan, AreaFits, DrewIn};
-ghost use Rattle.gfx.specs.Calls.{ShapeCalled, shape_number};
+ghost use Rattle.gfx.specs.Calls.{ShapeCalled, shape_number, counted_of};
 ghost use Rattle.paints.specs.Paints.{circle_rect, rounded_sd, centre_of};
 ghost use Rattle.stroke.specs.Stroke.{stroke_ok, stroke_reach, band_cover, full_row, corner_row, band_ink, outline_ink, stroke_ink};
 ghost use Rattle.stroke.specs.Stroke.{ring_ok};
@@ -18,6 +18,7 @@ ghost use Rattle.stroke.specs.Rows.{column_cover, band_at};
 
 use color::{Color, blend_c, blend_c_wide};
 use draw::{Area, Span, clipped};
+use geom::checks::Refusal;
 use geom::{IRect, Rect, floats_ok, nat_of};
 use gfx::{Canvas, Counted};
 use paints::{Rounded, both_positive, centre};
@@ -420,8 +421,8 @@ fn outline_area(px: &mut [u32], pitch: usize, b: Area, s: Rounded, width: f32, c
     0
 }
 
-// The outline of a rectangle whose floats were tested by the caller.
-fn outline(
+// The outline of a rectangle whose floats were tested by the caller, or the refusal.
+fn try_outline(
     canvas: Canvas,
     px: &mut [u32],
     ok: bool,
@@ -429,28 +430,14 @@ fn outline(
     r: f32,
     width: f32,
     c: Color,
-) -> Counted
+) -> Result<u64, Refusal>
     ensures { ShapeCalled (shape_number canvas (length px.old) ok) canvas px.old
-        (drawn canvas.pitch canvas.clip (stroke_reach rect c) (stroke_ink rect r width c) px.old) result
-        px.new }
+        (drawn canvas.pitch canvas.clip (stroke_reach rect c) (stroke_ink rect r width c) px.old)
+        (counted_of canvas result) px.new }
 {
-    let number = canvas.shape_number(px.len(), ok);
-    if number != 0 {
-        return Counted {
-            number,
-            canvas,
-            steps: 0,
-        };
-    }
-    let pitch = canvas.pitch;
-    let clip = canvas.clip;
-    let b = clipped(stroke_reach(rect, c), clip);
-    let steps = outline_area(px, pitch, b, Rounded::of(rect, r), width, c) as u64;
-    Counted {
-        number,
-        canvas,
-        steps,
-    }
+    canvas.check_shape(px.len(), ok)?;
+    let b = clipped(stroke_reach(rect, c), canvas.clip);
+    Ok(outline_area(px, canvas.pitch, b, Rounded::of(rect, r), width, c) as u64)
 }
 
 // The outline of a rounded rectangle.
@@ -467,7 +454,7 @@ pub fn stroke_rrect(
         px.new }
 {
     let ok = rect.in_range() & floats_ok(r, width);
-    outline(canvas, px, ok, rect, r, width, color)
+    Counted::of(canvas, try_outline(canvas, px, ok, rect, r, width, color))
 }
 
 // The outline of a circle. The rectangle around it may pass the limit of the numbers given.
@@ -486,5 +473,5 @@ pub fn ring(
 {
     let ok = floats_ok(cx, cy) & floats_ok(r, width);
     let rect = Rect::new(cx - r, cy - r, r * 2.0, r * 2.0);
-    outline(canvas, px, ok, rect, r, width, color)
+    Counted::of(canvas, try_outline(canvas, px, ok, rect, r, width, color))
 }
