@@ -5,7 +5,6 @@ ghost use Rattle.std.specs.Prelude.{◌≡◌, true, false, ℕ, ◌+◌, ◌<�
 ghost use Rattle.mathf.specs.F32.{◌+ᶠ◌, ◌-ᶠ◌, ◌*ᶠ◌, ◌≤ᶠ◌, f0, f1};
 ghost use Rattle.mathf.specs.Order.{fabs_of};
 ghost use Rattle.mathf.specs.Root.{sqrt_of};
-ghost use Rattle.geom.specs.Int.{up};
 ghost use Rattle.draw.specs.Draw.{drawn};
 ghost use Rattle.draw.specs.Held.{Holds};
 ghost use Rattle.draw.specs.Areas.{SpanFits, DrewSpan, AreaFits, DrewIn};
@@ -13,8 +12,7 @@ ghost use Rattle.gfx.specs.Calls.{ShapeCalled, shape_number};
 ghost use Rattle.paints.specs.Paints.{circle_rect, rounded_sd, centre_of};
 ghost use Rattle.stroke.specs.Stroke.{stroke_ok, stroke_reach, band_cover, full_row, corner_row, band_ink, outline_ink, stroke_ink};
 ghost use Rattle.stroke.specs.Stroke.{ring_ok};
-ghost use Rattle.stroke.specs.Rows.{BlankFrom, BlankUpto, width_of, GapOf, RowGap, LevelIn, LevelPart};
-ghost use Rattle.stroke.specs.Rows.{column_cover, band_at};
+ghost use Rattle.stroke.specs.Rows.{BlankFrom, BlankUpto, width_of, GapOf, RowGap, LevelIn, LevelPart, column_cover};
 
 use color::{Color, blend_c, blend_c_wide};
 use draw::{Area, Span, clipped};
