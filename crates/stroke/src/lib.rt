@@ -386,10 +386,13 @@ impl Frame {
 }
 
 // An area of the outline of a rectangle: what its rows share is worked out first.
-fn outline_all(px: &mut [u32], pitch: usize, b: Area, s: Rounded, width: f32, c: Color) -> u32
+fn outline_area(px: &mut [u32], pitch: usize, b: Area, s: Rounded, width: f32, c: Color) -> u32
     requires { AreaFits pitch b (length px.old) }
     ensures { DrewIn pitch b (outline_ink s width c) px.old result px.new }
 {
+    if b.y0 >= b.y1 {
+        return 0;
+    }
     let bent = gap(s, width, true);
     let straight = gap(s, width, false);
     let level = level_part(s, b.x0, b.x1);
@@ -405,17 +408,6 @@ fn outline_all(px: &mut [u32], pitch: usize, b: Area, s: Rounded, width: f32, c:
     };
     let cols = filled(b.x0, b.x1, |x| column_cover(s, width, x));
     b.draw(px, pitch, |px, row| o.draw_row(px, &cols, row))
-}
-
-// The same, where the area has rows.
-fn outline_area(px: &mut [u32], pitch: usize, b: Area, s: Rounded, width: f32, c: Color) -> u32
-    requires { AreaFits pitch b (length px.old) }
-    ensures { DrewIn pitch b (outline_ink s width c) px.old result px.new }
-{
-    if b.y0 < b.y1 {
-        return outline_all(px, pitch, b, s, width, c);
-    }
-    0
 }
 
 // The outline of a rectangle whose floats were tested by the caller.
