@@ -36,7 +36,6 @@ pub fn stroke_reach(rect: Rect, c: Color) -> IRect
 }
 
 // The coverage of a band of the width inside the edge, at a signed distance from it.
-#[tactic(auto, unfolding(crate::specs::Stroke::band_cover))]
 fn band_cover(d: f32, width: f32) -> u32
     ensures { result ≡ band_cover d width }
 {
