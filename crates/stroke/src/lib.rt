@@ -5,7 +5,6 @@ ghost use Rattle.std.specs.Prelude.{◌≡◌, true, false, ℕ, ◌+◌, ◌<�
 ghost use Rattle.mathf.specs.F32.{◌+ᶠ◌, ◌-ᶠ◌, ◌*ᶠ◌, ◌≤ᶠ◌, f0, f1};
 ghost use Rattle.mathf.specs.Order.{fabs_of};
 ghost use Rattle.mathf.specs.Root.{sqrt_of};
-ghost use Rattle.geom.specs.Int.{up};
 ghost use Rattle.draw.specs.Draw.{drawn};
 ghost use Rattle.draw.specs.Held.{Holds};
 ghost use Rattle.draw.specs.Areas.{SpanFits, DrewSpan, AreaFits, DrewIn};
@@ -13,8 +12,7 @@ ghost use Rattle.gfx.specs.Calls.{ShapeCalled, shape_number, counted_of};
 ghost use Rattle.paints.specs.Paints.{circle_rect, rounded_sd, centre_of};
 ghost use Rattle.stroke.specs.Stroke.{stroke_ok, stroke_reach, band_cover, full_row, corner_row, band_ink, outline_ink, stroke_ink};
 ghost use Rattle.stroke.specs.Stroke.{ring_ok};
-ghost use Rattle.stroke.specs.Rows.{BlankFrom, BlankUpto, width_of, GapOf, RowGap, LevelIn, LevelPart};
-ghost use Rattle.stroke.specs.Rows.{column_cover, band_at};
+ghost use Rattle.stroke.specs.Rows.{BlankFrom, BlankUpto, width_of, GapOf, RowGap, LevelIn, LevelPart, column_cover};
 
 use color::{Color, blend_c, blend_c_wide};
 use draw::{Area, Span, clipped};
@@ -39,7 +37,6 @@ pub fn stroke_reach(rect: Rect, c: Color) -> IRect
 }
 
 // The coverage of a band of the width inside the edge, at a signed distance from it.
-#[tactic(auto, unfolding(crate::specs::Stroke::band_cover))]
 fn band_cover(d: f32, width: f32) -> u32
     ensures { result ≡ band_cover d width }
 {
@@ -389,10 +386,13 @@ impl Frame {
 }
 
 // An area of the outline of a rectangle: what its rows share is worked out first.
-fn outline_all(px: &mut [u32], pitch: usize, b: Area, s: Rounded, width: f32, c: Color) -> u32
+fn outline_area(px: &mut [u32], pitch: usize, b: Area, s: Rounded, width: f32, c: Color) -> u32
     requires { AreaFits pitch b (length px.old) }
     ensures { DrewIn pitch b (outline_ink s width c) px.old result px.new }
 {
+    if b.y0 >= b.y1 {
+        return 0;
+    }
     let bent = gap(s, width, true);
     let straight = gap(s, width, false);
     let level = level_part(s, b.x0, b.x1);
@@ -408,17 +408,6 @@ fn outline_all(px: &mut [u32], pitch: usize, b: Area, s: Rounded, width: f32, c:
     };
     let cols = filled(b.x0, b.x1, |x| column_cover(s, width, x));
     b.draw(px, pitch, |px, row| o.draw_row(px, &cols, row))
-}
-
-// The same, where the area has rows.
-fn outline_area(px: &mut [u32], pitch: usize, b: Area, s: Rounded, width: f32, c: Color) -> u32
-    requires { AreaFits pitch b (length px.old) }
-    ensures { DrewIn pitch b (outline_ink s width c) px.old result px.new }
-{
-    if b.y0 < b.y1 {
-        return outline_all(px, pitch, b, s, width, c);
-    }
-    0
 }
 
 // The outline of a rectangle whose floats were tested by the caller, or the refusal.
