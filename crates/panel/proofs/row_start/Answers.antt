@@ -4,4 +4,4 @@ use Rattle.panel.proofs.row_start.Goals as goal
 
 pub returns : goal.returns
 unfolding row_start
-returns c = rw (c.regs_of.ensures, c.less-l.ensures, c.from-a.ensures)
+returns c = rw (c.regs_of.ensures, c.saturating_sub-l.ensures, c.from-a.ensures)
