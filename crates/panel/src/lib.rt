@@ -103,6 +103,7 @@ fn place_in(b: IRect, x: usize, y: usize, l: usize) -> bool
 }
 
 // No pixel is left of a box.
+#[tactic(auto, unfolding(crate::specs::Registers::finished))]
 fn finished(b: IRect) -> Panel
     ensures { result ≡ Registers.finished b }
 {
@@ -113,13 +114,13 @@ fn finished(b: IRect) -> Panel
 }
 
 // The first pixel of row y of a box.
+#[tactic(auto, unfolding(crate::specs::Registers::row_start))]
 fn row_start(f: u8, y: usize, b: IRect) -> Panel
     ensures { result ≡ Registers.row_start f y b }
 {
     let a = Area::from(b);
-    let l = a.x1.saturating_sub(a.x0);
     Panel {
-        regs: regs_of(f, a.x0, y, l),
+        regs: regs_of(f, a.x0, y, a.x1.saturating_sub(a.x0)),
         held: b,
     }
 }
@@ -137,6 +138,7 @@ fn loaded(b: IRect) -> Panel
 }
 
 // Whether a box is loaded by a command.
+#[tactic(auto, unfolding(crate::specs::Registers::command_ok))]
 fn command_ok(canvas: Canvas, value: u8, area: IRect) -> bool
     ensures { result ≡ command_ok canvas value area }
 {
@@ -182,6 +184,7 @@ impl Panel {
     }
 
     // Whether a pixel is ready.
+    #[tactic(auto, unfolding(crate::specs::Registers::ready))]
     fn ready(self) -> bool
         ensures { result ≡ Registers.ready self }
     {
@@ -189,13 +192,12 @@ impl Panel {
     }
 
     // Whether the held box is not empty and inside the canvas, and has the place.
+    #[tactic(auto, unfolding(crate::specs::Registers::transfer_ok))]
     fn transfer_ok(self, canvas: Canvas) -> bool
         ensures { result ≡ transfer_ok canvas self }
     {
-        let held = self.held;
-        let full = !held.is_empty();
-        let place = place_in(held, self.column(), self.row(), self.pixels_left());
-        full & canvas.has(held) & place
+        let place = place_in(self.held, self.column(), self.row(), self.pixels_left());
+        !self.held.is_empty() & canvas.has(self.held) & place
     }
 
     // Whether the registers are in order: refusal 12 is given for any others.
@@ -239,19 +241,18 @@ impl Panel {
     }
 
     // One pixel further: along the row, to the next row, or finished.
+    #[tactic(auto, unfolding(crate::specs::Registers::moved_on))]
     fn moved_on(self) -> Panel
         ensures { result ≡ Registers.moved_on self }
     {
-        if 1 < self.pixels_left() {
-            return self.next_column();
-        }
-        let held = self.held;
         let y = self.row() + 1;
-        let a = Area::from(held);
-        if y < a.y1 {
-            return row_start(self.flags(), y, held);
+        if 1 < self.pixels_left() {
+            self.next_column()
+        } else if y < Area::from(self.held).y1 {
+            row_start(self.flags(), y, self.held)
+        } else {
+            finished(self.held)
         }
-        finished(held)
     }
 
     // The pixel at column and row.
@@ -265,7 +266,13 @@ impl Panel {
 
     // `write_command`, or its refusal: 12, 15, 8, then 20.
     #[tactic(auto, unfolding(crate::specs::Registers::command_number))]
-    fn try_command(self, canvas: Canvas, px: &[u32], value: u8, area: IRect) -> Result<Panel, Refusal>
+    fn try_command(
+        self,
+        canvas: Canvas,
+        px: &[u32],
+        value: u8,
+        area: IRect,
+    ) -> Result<Panel, Refusal>
         ensures { WritesCommand canvas px.now self value area (stepped_of self result) }
     {
         self.check(canvas, px.len())?;
