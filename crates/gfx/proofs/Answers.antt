@@ -1,6 +1,6 @@
 -- What a call returns that tests its number and returns early: for its contract, by whether the number is 0. m is the number as the code has
 -- it, n its definition. Assumes nothing.
-use mathlib.Core.Path.{◌≡◌, refl, ap, ◌∙◌}
+use mathlib.Core.Path.{◌≡◌, refl, sym, ap, ◌∙◌}
 use mathlib.Core.Bool.{cond}
 use mathlib.Core.List.{List}
 use Prim.Native.Nat.{ℕ}
@@ -19,8 +19,11 @@ use Rattle.gfx.specs.declared.Done.{Done}
 use Rattle.gfx.specs.declared.Boxed.{Boxed}
 use Rattle.geom.specs.declared.IRect.{IRect}
 use Rattle.geom.specs.Box.{no_box}
-use Rattle.draw.specs.Draw.{differ}
-use Rattle.draw.specs.Areas.{Drew}
+use Rattle.draw.specs.Draw.{drawn, differ}
+use Rattle.draw.specs.declared.Area.{Area}
+use Rattle.draw.proofs.Clips.{drawn_clip}
+use Rattle.draw.proofs.Loops.{drew_as}
+use Rattle.draw.specs.Areas.{clip_to, drawn_in, Drew}
 use Rattle.color.specs.declared.Pixel.{Pixel}
 
 -- a number and what goes with it
@@ -77,6 +80,13 @@ module _ {n : ℕ} (z : 0 ≡ n) where
   pub done_shape : {c : Canvas} {px drawn px' : List ℕ} {most k : ℕ} → Drew most px drawn k px'
       → ShapeCalled n c px drawn (counted_of c (Ok k)) px'
   done_shape {px = px} d = done_counted d.paints (d.counts ∙ ap (differ px) d.paints)
+
+-- a shape whose reach is cut to the clip: b is the area that is drawn, j its steps as they are counted, k as they are told
+pub drawn_shape : (reach : IRect) (ink : ℕ → ℕ → ℕ → ℕ) {n : ℕ} {c : Canvas} {b : Area} {px px' : List ℕ} {most j k : ℕ} → 0 ≡ n → k ≡ j
+    → b ≡ clip_to reach c.clip → Drew most px (drawn_in c.pitch b ink px) j px'
+    → ShapeCalled n c px (drawn c.pitch c.clip reach ink px) (counted_of c (Ok k)) px'
+drawn_shape reach ink {c = c} {px = px} z e q d =
+    rw e (done_shape z (drew_as d (rw q (sym (drawn_clip c.pitch c.clip reach ink px)))))
 
 -- a box that is given where the tests pass
 pub told_box : {n : ℕ} (b : IRect) (t : Result ⊤ Refusal) → number_of t ≡ n → boxed_of (result_and t (Ok b)) ≡ box_answer n b

@@ -24,7 +24,9 @@ use Rattle.draw.proofs.Onto.{onto_is}
 use Rattle.draw.proofs.Rows.{within_true, within_in}
 use Rattle.draw.proofs.Clips.{clip_fits}
 use Rattle.gfx.proofs.Valid.{side_of, frame, clip_cases, valid_of_lem}
-use Rattle.gfx.proofs.Sizes.{Open}
+use Rattle.draw.specs.declared.Area.{Area}
+use Rattle.gfx.specs.Calls.{px_number, shape_number}
+use Rattle.gfx.proofs.Sizes.{Open, open_of, shape_open}
 use Rattle.draw.proofs.Frame.{Frame}
 use Rattle.gfx.specs.State.{side_ok}
 use Rattle.gfx.specs.declared.Canvas.{Canvas}
@@ -38,6 +40,14 @@ canvas_fits c n reach o =
     rw (w.is, h.is) at (clip_cases c.w c.h c.clip v.clip) in
     clip_fits c.pitch (up c.w) (up c.h) n reach c.clip k o.frame.rows.room w.high h.high
     (le_of_eq (sym (o.frame.long ∙ mul_comm c.pitch (up c.h))))
+
+-- the same after the tests of px, and after those of a shape call: b is the area that is drawn
+module _ (c : Canvas) (reach : IRect) {n : ℕ} {b : Area} where
+  pub fits_px : 0 ≡ px_number c n → b ≡ clip_to reach c.clip → AreaFits c.pitch b n
+  fits_px z q = rw q (canvas_fits c n reach (open_of c n (sym z)))
+
+  pub fits_shape : (ok : Bool) → 0 ≡ shape_number c n ok → b ≡ clip_to reach c.clip → AreaFits c.pitch b n
+  fits_shape ok z q = rw q (canvas_fits c n reach (shape_open c n ok (sym z)))
 
 -- the pixels of a canvas of w columns and h rows that is not refused, and all of px
 pub rows_fit : (w h : ℤ) (pitch n : ℕ) → side_ok w ≡ true → side_ok h ≡ true → Frame (up w) (up h) pitch n

@@ -1,9 +1,11 @@
 -- The panel's registers (document 02, 2026-13): for each step its number, 0 where it is accepted, and by that number what it
 -- returns. Assumes nothing.
-use Rattle.std.specs.Prelude.{ℕ, ◌+◌, ◌-◌, ◌*◌, ◌/◌, ◌%◌, Bool, cond, not, ◌&&◌, ◌||◌, List, ◌∷◌, ◌++◌, ◌≡◌, ltb, eqb, pos, length, get_or, set, replicate}
+use Rattle.std.specs.Prelude.{ℕ, ◌+◌, ◌-◌, ◌*◌, ◌/◌, ◌%◌, Bool, cond, not, ◌&&◌, ◌||◌, List, ◌∷◌, ◌++◌, ◌≡◌, ltb, eqb, pos, length, get_or, set, replicate, Ok, Err}
 use Rattle.geom.specs.Int.{up}
 use Rattle.geom.specs.Box.{inside, empty, no_box}
-use Rattle.geom.specs.Refusals.{unless, and_then}
+use Rattle.std.specs.declared.result.Result.{Result}
+use Rattle.geom.specs.Refusals.{code, unless, and_then}
+use Rattle.geom.specs.declared.checks.Refusal.{Refusal}
 use Rattle.geom.specs.declared.IRect.{IRect}
 use Rattle.sheet.specs.Bytes.{byte_at, u16_at}
 use Rattle.encode.specs.Encode.{u16}
@@ -136,6 +138,15 @@ stepped n given next = record { number = n; panel = cond (eqb n 0) next given }
 
 abbrev pub taken : ℕ → ℕ → Panel → Panel → Taken
 taken n v given next = record { number = n; value = cond (eqb n 0) v 0; panel = cond (eqb n 0) next given }
+
+-- the same of a result: what was accepted, beside 0, or the panel as given beside the number of the refusal
+abbrev pub stepped_of : Panel → Result Panel Refusal → Stepped
+stepped_of given (Ok next) = record { number = 0; panel = next }
+stepped_of given (Err r) = record { number = code r; panel = given }
+
+abbrev pub taken_of : Panel → Result (ℕ × Panel) Refusal → Taken
+taken_of given (Ok (v, next)) = record { number = 0; value = v; panel = next }
+taken_of given (Err r) = record { number = code r; value = 0; panel = given }
 
 abbrev pub WritesCommand : Canvas → List ℕ → Panel → ℕ → IRect → Stepped → Type 0
 WritesCommand c px p v b r = r ≡ stepped (command_number c (length px) p v b) p (loaded b)

@@ -2,14 +2,15 @@
 // lent, and no step alters it. A refused step returns the panel as given.
 #![tactic(auto)]
 
-ghost use Rattle.std.specs.Prelude.{◌≡◌, ◌-◌, ◌<◌, length};
-ghost use Rattle.geom.specs.Refusals.{unless, and_then};
+ghost use Rattle.std.specs.Prelude.{◌≡◌, ◌<◌, length};
+ghost use Rattle.geom.specs.Refusals.{number_of};
 ghost use Rattle.panel.specs.Registers.{flags_of, regs_of, fresh_panel, place_in, transfer_ok, panel_ok, panel_number, command_ok};
-ghost use Rattle.panel.specs.Registers.{take_number, pixel_in, WritesCommand, WritesFlags, Takes};
+ghost use Rattle.panel.specs.Registers.{stepped_of, taken_of, take_number, pixel_in, WritesCommand, WritesFlags, Takes};
 ghost use Rattle.panel.specs.Registers as Registers;
 
 use draw::Area;
 use geom::IRect;
+use geom::checks::{Refusal, ensure};
 use gfx::Canvas;
 use sheet::u16_at;
 
@@ -39,6 +40,41 @@ pub struct Taken {
     pub panel: Panel,
 }
 
+impl Stepped {
+    // The answer of a write to a panel: the next panel, or the refusal beside the given one.
+    fn of(given: Panel, next: Result<Panel, Refusal>) -> Stepped
+        ensures { result ≡ stepped_of given next }
+    {
+        match next {
+            Ok(panel) => Stepped { number: 0, panel },
+            Err(refusal) => Stepped {
+                number: refusal.into(),
+                panel: given,
+            },
+        }
+    }
+}
+
+impl Taken {
+    // The answer of a take from a panel: the pixel and the next panel, or the refusal beside 0 and the given one.
+    fn of(panel: Panel, took: Result<(u32, Panel), Refusal>) -> Taken
+        ensures { result ≡ taken_of panel took }
+    {
+        match took {
+            Ok((value, next)) => Taken {
+                number: 0,
+                value,
+                panel: next,
+            },
+            Err(refusal) => Taken {
+                number: refusal.into(),
+                value: 0,
+                panel,
+            },
+        }
+    }
+}
+
 // The bytes of flags, column, row and pixels left; the command reads 0.
 fn regs_of(f: u8, x: usize, y: usize, l: usize) -> [u8; 8]
     ensures { result ≡ regs_of f x y l }
@@ -55,13 +91,6 @@ fn regs_of(f: u8, x: usize, y: usize, l: usize) -> [u8; 8]
     ]
 }
 
-// a less b, 0 where b is larger.
-fn less(a: usize, b: usize) -> usize
-    ensures { result ≡ a - b }
-{
-    if b < a { a - b } else { 0 }
-}
-
 // Whether column x and row y are inside a box, and l pixels the rest of its row.
 fn place_in(b: IRect, x: usize, y: usize, l: usize) -> bool
     requires { (x < 65536) × (l < 65536) }
@@ -74,6 +103,7 @@ fn place_in(b: IRect, x: usize, y: usize, l: usize) -> bool
 }
 
 // No pixel is left of a box.
+#[tactic(auto, unfolding(crate::specs::Registers::finished))]
 fn finished(b: IRect) -> Panel
     ensures { result ≡ Registers.finished b }
 {
@@ -84,59 +114,35 @@ fn finished(b: IRect) -> Panel
 }
 
 // The first pixel of row y of a box.
+#[tactic(auto, unfolding(crate::specs::Registers::row_start))]
 fn row_start(f: u8, y: usize, b: IRect) -> Panel
     ensures { result ≡ Registers.row_start f y b }
 {
     let a = Area::from(b);
-    let l = less(a.x1, a.x0);
     Panel {
-        regs: regs_of(f, a.x0, y, l),
+        regs: regs_of(f, a.x0, y, a.x1.saturating_sub(a.x0)),
         held: b,
     }
 }
 
 // A box loaded.
+#[tactic(auto, unfolding(crate::specs::Registers::loaded))]
 fn loaded(b: IRect) -> Panel
     ensures { result ≡ Registers.loaded b }
 {
     if b.is_empty() {
-        return finished(b);
+        finished(b)
+    } else {
+        row_start(1, Area::from(b).y0, b)
     }
-    let a = Area::from(b);
-    row_start(1, a.y0, b)
 }
 
 // Whether a box is loaded by a command.
+#[tactic(auto, unfolding(crate::specs::Registers::command_ok))]
 fn command_ok(canvas: Canvas, value: u8, area: IRect) -> bool
     ensures { result ≡ command_ok canvas value area }
 {
     (value == 1) & (area.is_empty() | canvas.has(area))
-}
-
-// The number of the tests before, or where it is 0 that of a last one.
-fn step_number(number: u32, ok: bool, k: u32) -> u32
-    ensures { result ≡ and_then number (unless ok k 0) }
-{
-    if number != 0 {
-        return number;
-    }
-    if ok { 0 } else { k }
-}
-
-// What a write returns, by its number.
-fn step(number: u32, given: Panel, next: Panel) -> Stepped
-    ensures { result ≡ Registers.stepped number given next }
-{
-    if number != 0 {
-        return Stepped {
-            number,
-            panel: given,
-        };
-    }
-    Stepped {
-        number,
-        panel: next,
-    }
 }
 
 impl Panel {
@@ -153,32 +159,32 @@ impl Panel {
     fn flags(self) -> u8
         ensures { result ≡ flags_of self }
     {
-        let regs = self.regs;
-        regs[1]
+        self.regs[1]
     }
 
+    #[tactic(auto, unfolding(crate::specs::Registers::column))]
     fn column(self) -> usize
         ensures { (result ≡ Registers.column self) × (result < 65536) }
     {
-        let regs = self.regs;
-        u16_at(&regs, 2)
+        u16_at(&self.regs, 2)
     }
 
+    #[tactic(auto, unfolding(crate::specs::Registers::row))]
     fn row(self) -> usize
         ensures { (result ≡ Registers.row self) × (result < 65536) }
     {
-        let regs = self.regs;
-        u16_at(&regs, 4)
+        u16_at(&self.regs, 4)
     }
 
+    #[tactic(auto, unfolding(crate::specs::Registers::pixels_left))]
     fn pixels_left(self) -> usize
         ensures { (result ≡ Registers.pixels_left self) × (result < 65536) }
     {
-        let regs = self.regs;
-        u16_at(&regs, 6)
+        u16_at(&self.regs, 6)
     }
 
     // Whether a pixel is ready.
+    #[tactic(auto, unfolding(crate::specs::Registers::ready))]
     fn ready(self) -> bool
         ensures { result ≡ Registers.ready self }
     {
@@ -186,71 +192,67 @@ impl Panel {
     }
 
     // Whether the held box is not empty and inside the canvas, and has the place.
+    #[tactic(auto, unfolding(crate::specs::Registers::transfer_ok))]
     fn transfer_ok(self, canvas: Canvas) -> bool
         ensures { result ≡ transfer_ok canvas self }
     {
-        let held = self.held;
-        let full = !held.is_empty();
-        let place = place_in(held, self.column(), self.row(), self.pixels_left());
-        full & canvas.has(held) & place
+        let place = place_in(self.held, self.column(), self.row(), self.pixels_left());
+        !self.held.is_empty() & canvas.has(self.held) & place
     }
 
     // Whether the registers are in order: refusal 12 is given for any others.
+    #[tactic(auto, unfolding(crate::specs::Registers::panel_ok, crate::specs::Registers::flags_ok))]
     fn ok(self, canvas: Canvas) -> bool
         ensures { result ≡ panel_ok canvas self }
     {
-        let regs = self.regs;
-        let command = regs[0] == 0;
-        let flags = regs[1] / 2 % 64 == 0;
+        let command = self.regs[0] == 0;
+        let flags = self.flags() / 2 % 64 == 0;
         let place = !self.ready() | self.transfer_ok(canvas);
         command & flags & place
     }
 
-    // The number that every step on n lent words is refused with before its own check, or 0.
-    fn number(self, canvas: Canvas, n: usize) -> u32
-        ensures { result ≡ panel_number canvas n self }
+    // What every step on n lent words tests before its own check: refused with 12, 15, then 8.
+    #[tactic(auto, unfolding(crate::specs::Registers::panel_number))]
+    fn check(self, canvas: Canvas, n: usize) -> Result<(), Refusal>
+        ensures { number_of result ≡ panel_number canvas n self }
     {
-        if !self.ok(canvas) {
-            return 12;
-        }
-        canvas.px_number(n)
+        ensure(self.ok(canvas), Refusal::State)?;
+        canvas.check_px(n)
     }
 
     // Bit 7 cleared.
+    #[tactic(auto, unfolding(crate::specs::Registers::acknowledged))]
     fn acknowledged(self) -> Panel
         ensures { result ≡ Registers.acknowledged self }
     {
         let mut regs = self.regs;
-        let f = regs[1];
-        regs[1] = f % 128;
-        let held = self.held;
-        Panel { regs, held }
+        regs[1] = self.flags() % 128;
+        Panel { regs, ..self }
     }
 
     // One column further.
+    #[tactic(auto, unfolding(crate::specs::Registers::next_column))]
     fn next_column(self) -> Panel
         ensures { result ≡ Registers.next_column self }
     {
-        let l = less(self.pixels_left(), 1);
+        let l = self.pixels_left().saturating_sub(1);
         let regs = regs_of(self.flags(), self.column() + 1, self.row(), l);
-        let held = self.held;
-        Panel { regs, held }
+        Panel { regs, ..self }
     }
 
     // One pixel further: along the row, to the next row, or finished.
+    #[tactic(auto, unfolding(crate::specs::Registers::moved_on))]
     fn moved_on(self) -> Panel
         ensures { result ≡ Registers.moved_on self }
     {
-        if 1 < self.pixels_left() {
-            return self.next_column();
-        }
-        let held = self.held;
         let y = self.row() + 1;
-        let a = Area::from(held);
-        if y < a.y1 {
-            return row_start(self.flags(), y, held);
+        if 1 < self.pixels_left() {
+            self.next_column()
+        } else if y < Area::from(self.held).y1 {
+            row_start(self.flags(), y, self.held)
+        } else {
+            finished(self.held)
         }
-        finished(held)
     }
 
     // The pixel at column and row.
@@ -262,46 +264,60 @@ impl Panel {
         px[at]
     }
 
+    // `write_command`, or its refusal: 12, 15, 8, then 20.
+    #[tactic(auto, unfolding(crate::specs::Registers::command_number))]
+    fn try_command(
+        self,
+        canvas: Canvas,
+        px: &[u32],
+        value: u8,
+        area: IRect,
+    ) -> Result<Panel, Refusal>
+        ensures { WritesCommand canvas px.now self value area (stepped_of self result) }
+    {
+        self.check(canvas, px.len())?;
+        ensure(command_ok(canvas, value, area), Refusal::Command)?;
+        Ok(loaded(area))
+    }
+
     // Writes to the command, with a box: 1 loads it.
     pub fn write_command(self, canvas: Canvas, px: &[u32], value: u8, area: IRect) -> Stepped
         ensures { WritesCommand canvas px.now self value area result }
     {
-        let number = self.number(canvas, px.len());
-        let ok = command_ok(canvas, value, area);
-        step(step_number(number, ok, 20), self, loaded(area))
+        Stepped::of(self, self.try_command(canvas, px, value, area))
+    }
+
+    // `write_flags`, or its refusal: 12, 15, 8, then 21.
+    #[tactic(auto, unfolding(crate::specs::Registers::flags_number))]
+    fn try_flags(self, canvas: Canvas, px: &[u32], value: u8) -> Result<Panel, Refusal>
+        ensures { WritesFlags canvas px.now self value (stepped_of self result) }
+    {
+        self.check(canvas, px.len())?;
+        ensure(value == 128, Refusal::FlagWrite)?;
+        Ok(self.acknowledged())
     }
 
     // Writes to the flags: 128 clears bit 7.
     pub fn write_flags(self, canvas: Canvas, px: &[u32], value: u8) -> Stepped
         ensures { WritesFlags canvas px.now self value result }
     {
-        let number = self.number(canvas, px.len());
-        step(
-            step_number(number, value == 128, 21),
-            self,
-            self.acknowledged(),
-        )
+        Stepped::of(self, self.try_flags(canvas, px, value))
+    }
+
+    // `take`, or its refusal: 12, 15, 8, then 22.
+    #[tactic(auto, unfolding(crate::specs::Registers::take_number))]
+    fn try_take(self, canvas: Canvas, px: &[u32]) -> Result<(u32, Panel), Refusal>
+        ensures { Takes canvas px.now self (taken_of self result) }
+    {
+        self.check(canvas, px.len())?;
+        ensure(self.ready(), Refusal::NotReady)?;
+        Ok((self.pixel(canvas, px), self.moved_on()))
     }
 
     // Takes the pixel at column and row, and moves on.
     pub fn take(self, canvas: Canvas, px: &[u32]) -> Taken
         ensures { Takes canvas px.now self result }
     {
-        let before = self.number(canvas, px.len());
-        let number = step_number(before, self.ready(), 22);
-        if number != 0 {
-            return Taken {
-                number,
-                value: 0,
-                panel: self,
-            };
-        }
-        let value = self.pixel(canvas, px);
-        let panel = self.moved_on();
-        Taken {
-            number,
-            value,
-            panel,
-        }
+        Taken::of(self, self.try_take(canvas, px))
     }
 }
