@@ -1,6 +1,6 @@
 // What the proved functions of mathf and color answer. A case has the function's number, its inputs, and the answer's low and
 // high word.
-use crate::word::{float, float_of, int, joined, pair, pattern, word};
+use crate::word::{float, float_of, int, pair, pattern, word};
 use color::Color;
 
 fn mathf_float(f: u32, a: f32, b: f32, c: f32) -> f32 {
@@ -32,23 +32,19 @@ pub(crate) fn mathf(case: &[u8]) -> bool {
     let f = word(case, 0);
     let a = float(case, 1);
     if f == 7 {
-        return (mathf::to_i32(a) == int(case, 4)) & (word(case, 5) == 0);
+        return mathf::to_i32(a) == int(case, 4) && word(case, 5) == 0;
     }
     mathf_answer(f, a, float(case, 2), float(case, 3)) == pair(word(case, 4), word(case, 5))
 }
 
 // A colour is stored as the bytes red, green, blue, alpha of a word, the lowest first.
 pub fn color_of(w: u32) -> Color {
-    Color::rgba(
-        (w % 256) as u8,
-        (w / 256 % 256) as u8,
-        (w / 65536 % 256) as u8,
-        (w / 16777216) as u8,
-    )
+    let [r, g, b, a] = w.to_le_bytes();
+    Color::rgba(r, g, b, a)
 }
 
 pub(crate) fn color_word(c: Color) -> u32 {
-    joined(c.r, c.g, c.b, c.a)
+    u32::from_le_bytes([c.r, c.g, c.b, c.a])
 }
 
 fn color_color(f: u32, a: u32, b: u32, c: u32) -> Color {
@@ -67,8 +63,7 @@ fn color_color(f: u32, a: u32, b: u32, c: u32) -> Color {
 
 // A number, and 256 more where a blend altered the pixel's value.
 fn noted(number: u32, altered: bool) -> u32 {
-    let more = if altered { 256 } else { 0 };
-    std::num::wrapping_add_u32(number, more)
+    number.wrapping_add(256 * altered as u32)
 }
 
 fn color_blend(dst: u32, r: u32, g: u32, b: u32, a: u32) -> u64 {

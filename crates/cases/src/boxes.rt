@@ -17,14 +17,16 @@ pub fn irect(words: &[u8]) -> IRect {
     IRect::new(int(words, 0), int(words, 1), int(words, 2), int(words, 3))
 }
 
-pub fn same_box(a: IRect, b: IRect) -> bool {
-    (a.x0 == b.x0) & (a.y0 == b.y0) & (a.x1 == b.x1) & (a.y1 == b.y1)
-}
-
 // Whether the first four words are a rectangle's.
 fn same_rect(r: Rect, words: &[u8]) -> bool {
-    let corner = (pattern(r.x) == word(words, 0)) & (pattern(r.y) == word(words, 1));
-    corner & (pattern(r.w) == word(words, 2)) & (pattern(r.h) == word(words, 3))
+    let sides = [r.x, r.y, r.w, r.h].map(pattern);
+    sides
+        == [
+            word(words, 0),
+            word(words, 1),
+            word(words, 2),
+            word(words, 3),
+        ]
 }
 
 fn number(x: f32) -> Rect {
@@ -32,7 +34,7 @@ fn number(x: f32) -> Rect {
 }
 
 fn flag(t: bool) -> IRect {
-    IRect::new(if t { 1 } else { 0 }, 0, 0, 0)
+    IRect::new(t as i32, 0, 0, 0)
 }
 
 fn rect_of(f: u32, r: Rect, o: Rect) -> Rect {
@@ -64,8 +66,8 @@ pub(crate) fn agrees(case: &[u8]) -> bool {
     let f = word(case, 0);
     let words = from(case, 1);
     let answer = from(case, 9);
-    if (f <= 8) | (f == 13) {
+    if f <= 8 || f == 13 {
         return same_rect(rect_of(f, rect(words), rect(from(words, 4))), answer);
     }
-    same_box(box_of(f, words), irect(answer))
+    box_of(f, words) == irect(answer)
 }

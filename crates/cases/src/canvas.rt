@@ -1,10 +1,8 @@
 // Canvas calls: a case has the call, four words of arguments, the count of the words of px with their base and step, the state
 // (72 words), then the number, four words of answer, what is left in px (a pitch, so many columns, and the value of the first
 // words of each row), and the state left.
-ghost use Rattle.std.specs.Prelude.{◌≡◌, length};
-
 use crate::answer::color_of;
-use crate::boxes::{irect, rect, same_box};
+use crate::boxes::{irect, rect};
 use crate::word::{from, int, word};
 use color::Pixel;
 use geom::IRect;
@@ -26,19 +24,10 @@ pub fn framed(words: &[u8], saved: [IRect; 16], depth: usize) -> Canvas {
     }
 }
 
-pub fn none_saved() -> [IRect; 16]
-    ensures { 16 ≡ length result }
-{
-    let zero = IRect::ZERO;
-    [zero; 16]
-}
-
 fn saved(words: &[u8]) -> [IRect; 16] {
-    let mut out = none_saved();
-    let mut place: u32 = 0;
-    for i in 0..16 {
-        out[i] = irect(from(words, place));
-        place = std::num::wrapping_add_u32(place, 4);
+    let mut out = [IRect::ZERO; 16];
+    for (i, area) in out.iter_mut().enumerate() {
+        *area = irect(from(words, 4 * i as u32));
     }
     out
 }
@@ -49,27 +38,15 @@ pub fn state(words: &[u8]) -> Canvas {
     framed(words, saved(from(words, 8)), depth)
 }
 
-fn same_saved(a: [IRect; 16], b: [IRect; 16]) -> bool {
-    let mut same = true;
-    for i in 0..16 {
-        let p = a[i];
-        let q = b[i];
-        same = same & same_box(p, q);
-    }
-    same
-}
-
 pub fn same_state(a: Canvas, b: Canvas) -> bool {
-    let p = a.saved;
-    let q = b.saved;
-    let sides = (a.w == b.w) & (a.h == b.h) & (a.pitch == b.pitch);
-    sides & (a.depth == b.depth) & same_box(a.clip, b.clip) & same_saved(p, q)
+    let sides = a.w == b.w && a.h == b.h && a.pitch == b.pitch;
+    sides && a.depth == b.depth && a.clip == b.clip && a.saved == b.saved
 }
 
 // Whether a call that returns a state answered as stored: the number, four zeros, and, past what is left in px, the state.
 fn same_done(d: Done, case: &[u8]) -> bool {
-    let none = same_box(IRect::ZERO, irect(from(case, 81)));
-    (d.number == word(case, 80)) & none & same_state(d.canvas, state(from(case, 88)))
+    let none = irect(from(case, 81)) == IRect::ZERO;
+    d.number == word(case, 80) && none && same_state(d.canvas, state(from(case, 88)))
 }
 
 // Whether the stored state is the given one.
@@ -78,12 +55,12 @@ fn kept(case: &[u8]) -> bool {
 }
 
 fn same_boxed(b: Boxed, case: &[u8]) -> bool {
-    (b.number == word(case, 80)) & same_box(b.area, irect(from(case, 81))) & kept(case)
+    b.number == word(case, 80) && b.area == irect(from(case, 81)) && kept(case)
 }
 
 fn same_pixel(p: Pixel, case: &[u8]) -> bool {
-    let said = (p.number == word(case, 80)) & (p.value == word(case, 81));
-    said & (word(case, 82) == 0) & (word(case, 83) == 0) & (word(case, 84) == 0)
+    let said = p.number == word(case, 80) && p.value == word(case, 81);
+    said && (82..85).all(|i| word(case, i) == 0)
 }
 
 fn made(case: &[u8], px: &mut [u32]) -> bool {
@@ -119,7 +96,7 @@ fn cleared(case: &[u8], px: &mut [u32]) -> bool {
 fn got(case: &[u8], px: &[u32]) -> bool {
     let x = int(case, 1);
     let y = int(case, 2);
-    same_pixel(state(from(case, 8)).get(px, x, y), case) & kept(case)
+    same_pixel(state(from(case, 8)).get(px, x, y), case) && kept(case)
 }
 
 fn bounded(case: &[u8]) -> bool {

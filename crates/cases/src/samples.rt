@@ -53,7 +53,7 @@ fn answer(f: u32, words: &[u8]) -> u32 {
     match f {
         1 => paints::cov8(float(words, 0)),
         2 => distance(words),
-        _ => color_at(std::num::wrapping_sub_u32(f, 3), words),
+        _ => color_at(f.wrapping_sub(3), words),
     }
 }
 

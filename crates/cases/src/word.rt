@@ -1,22 +1,16 @@
 // Words of 32 bits in bytes, the lowest byte first, and floats and signed numbers as words.
 ghost use Rattle.std.specs.Prelude.{◌≡◌, ◌+◌, ◌*◌, ◌≤◌, take, drop, from_bits};
 ghost use Rattle.std.specs.Float.{binary32};
-ghost use Rattle.cases.specs.Word.{joined_of, word_at};
-
-// The word of four bytes.
-pub(crate) fn joined(a: u8, b: u8, c: u8, d: u8) -> u32
-    ensures { result ≡ joined_of a b c d }
-{
-    a as u32 + 256 * (b as u32) + 65536 * (c as u32) + 16777216 * (d as u32)
-}
+ghost use Rattle.cases.specs.Word.{word_at};
 
 // The word at place i, counted in words; one that is not all there is 0.
+#[tactic(auto, unfolding(crate::specs::Word::word_at))]
 pub fn word(bytes: &[u8], i: u32) -> u32
     ensures { result ≡ word_at bytes.now i }
 {
     let at = 4 * (i as usize);
     if at + 4 <= bytes.len() {
-        joined(bytes[at], bytes[at + 1], bytes[at + 2], bytes[at + 3])
+        u32::from_le_bytes([bytes[at], bytes[at + 1], bytes[at + 2], bytes[at + 3]])
     } else {
         0
     }
@@ -26,35 +20,19 @@ pub fn word(bytes: &[u8], i: u32) -> u32
 pub fn from(bytes: &[u8], i: u32) -> &[u8]
     ensures { result.now ≡ drop (4 * i) bytes.now }
 {
-    let at = 4 * (i as usize);
-    if at <= bytes.len() {
-        &bytes[at..]
-    } else {
-        &bytes[..0]
-    }
+    bytes.get(4 * i as usize..).unwrap_or(&[])
 }
 
 // The first n bytes, or as many as there are.
 pub fn upto(bytes: &[u8], n: u32) -> &[u8]
     ensures { result.now ≡ take n bytes.now }
 {
-    let to = n as usize;
-    if to <= bytes.len() {
-        &bytes[..to]
-    } else {
-        bytes
-    }
-}
-
-pub fn least(a: usize, b: usize) -> usize
-    ensures { result ≤ b }
-{
-    if a < b { a } else { b }
+    bytes.get(..n as usize).unwrap_or(bytes)
 }
 
 // The number with a low and a high word.
 pub(crate) fn pair(low: u32, high: u32) -> u64 {
-    (low as u64) + 4294967296 * (high as u64)
+    (high as u64) << 32 | low as u64
 }
 
 // The float whose pattern is b. `from_bits` is defined at no NaN's pattern, so a NaN is made of 0 / 0.
@@ -75,15 +53,10 @@ pub fn float(bytes: &[u8], i: u32) -> f32 {
 
 // The pattern of x; of every NaN one and the same.
 pub fn pattern(x: f32) -> u32 {
-    if x == x { f32::to_bits(x) } else { 0x7fc0_0000 }
+    if x.is_nan() { 0x7fc0_0000 } else { x.to_bits() }
 }
 
 // The signed number at place i, in two's complement.
 pub fn int(bytes: &[u8], i: u32) -> i32 {
-    let b = word(bytes, i);
-    if b < 2147483648 {
-        b as i32
-    } else {
-        !((4294967295 - b) as i32)
-    }
+    word(bytes, i).cast_signed()
 }

@@ -1,11 +1,8 @@
 // Small clip orders: the call with a buffer of which every byte is known, and what it must answer and leave.
 // The file holds the number of sheets; each sheet then has its length in bytes, its 16 pixels and its bytes, which are whole
 // words.
-ghost use Rattle.std.specs.Prelude.{◌≡◌, length};
-
 use crate::lent::same_words;
-use cases::same_box;
-use cases::word::{from, least, upto, word};
+use cases::word::{from, upto, word};
 use geom::IRect;
 use orders::clip_order;
 use paint::paint;
@@ -18,35 +15,26 @@ fn mark(i: usize) -> u8 {
     (65 + i % 61) as u8
 }
 
-fn marked() -> [u8; ROOM]
-    ensures { 360 ≡ length result }
-{
+fn marked() -> [u8; ROOM] {
     let mut out = [0; ROOM];
-    for i in 0..ROOM {
-        out[i] = mark(i);
+    for (i, x) in out.iter_mut().enumerate() {
+        *x = mark(i);
     }
     out
 }
 
-// The byte at place i after the call.
-fn left(sheet: &[u8], i: usize) -> u8 {
-    if i < sheet.len() { sheet[i] } else { mark(i) }
-}
-
 // Whether a buffer is a sheet, and past it what it was before.
-pub(crate) fn holds(buf: &[u8], sheet: &[u8]) -> bool {
-    let mut same = true;
-    for i in 0..buf.len() {
-        same = same & (buf[i] == left(sheet, i));
-    }
-    same
+fn holds(buf: &[u8], sheet: &[u8]) -> bool {
+    buf.iter()
+        .enumerate()
+        .all(|(i, x)| *x == sheet.get(i).copied().unwrap_or(mark(i)))
 }
 
 fn leaves_in(buf: &mut [u8], lent: usize, k: usize, number: u32, sheet: &[u8]) -> bool {
-    let n = least(lent, buf.len());
+    let n = lent.min(buf.len());
     let w = clip_order(k, &mut buf[..n]);
-    let said = (w.number == number) & (w.item == 0) & (w.len == sheet.len());
-    said & holds(buf, sheet)
+    let said = w.number == number && w.item == 0 && w.len == sheet.len();
+    said && holds(buf, sheet)
 }
 
 // Whether the call, lent so many bytes of a buffer, answers with a number and leaves a sheet in it; an empty one where it
@@ -62,8 +50,8 @@ fn paints(sheet: &[u8], case: &[u8]) -> bool {
     let mut px = [0x1234_5678; 16];
     let mut scratch = [0.0; 0];
     let a = paint(sheet, 4, &mut px, &mut scratch).answer;
-    let whole = same_box(a.area, IRect::new(0, 0, 4, 4));
-    (a.number == 0) & (a.item == 0) & whole & same_words(&px, from(case, 1))
+    let whole = a.area == IRect::new(0, 0, 4, 4);
+    a.number == 0 && a.item == 0 && whole && same_words(&px, from(case, 1))
 }
 
 // Four numbers past the last.
@@ -88,9 +76,9 @@ pub(crate) fn said(case: &[u8], kind: u32, i: u32) -> bool {
     }
     match kind {
         2 => leaves(sheet.len(), k, 0, sheet),
-        3 => leaves(std::num::wrapping_sub_usize(sheet.len(), 1), k, 19, b""),
-        4 => leaves(ROOM, k, 0, sheet) & paints(sheet, case),
-        5 => leaves(ROOM, past(k), 23, b"") & leaves(0, past(k), 23, b""),
+        3 => leaves(sheet.len().wrapping_sub(1), k, 19, b""),
+        4 => leaves(ROOM, k, 0, sheet) && paints(sheet, case),
+        5 => leaves(ROOM, past(k), 23, b"") && leaves(0, past(k), 23, b""),
         _ => leaves(ROOM, k, 0, sheet),
     }
 }

@@ -1,24 +1,15 @@
 // Steps on the panel's registers: a case has the step, a box, the count of the words of px with their base and step, the state
 // (72 words), the byte written and the panel, then the number, the pixel and the panel left. A panel has six words: eight bytes,
 // and the held box.
-use crate::clip_orders::holds;
 use cases::canvas::state;
-use cases::word::{from, upto, word};
-use cases::{irect, same_box};
+use cases::irect;
+use cases::word::{from, word};
 use panel::Panel;
 use sheet::byte_at;
 
+// The first eight bytes; zeros past the end.
 fn registers(bytes: &[u8]) -> [u8; 8] {
-    [
-        byte_at(bytes, 0),
-        byte_at(bytes, 1),
-        byte_at(bytes, 2),
-        byte_at(bytes, 3),
-        byte_at(bytes, 4),
-        byte_at(bytes, 5),
-        byte_at(bytes, 6),
-        byte_at(bytes, 7),
-    ]
+    std::array::from_fn(|i| byte_at(bytes, i))
 }
 
 // The panel that a step is given.
@@ -35,10 +26,9 @@ fn written(case: &[u8]) -> u8 {
 
 // Whether a step answered as stored: number, pixel, every byte of the registers, and the held box.
 fn same(number: u32, value: u32, left: Panel, case: &[u8]) -> bool {
-    let regs = left.regs;
-    let told = (number == word(case, 87)) & (value == word(case, 88));
-    let bytes = holds(&regs, upto(from(case, 89), 8));
-    told & bytes & same_box(left.held, irect(from(case, 91)))
+    let told = number == word(case, 87) && value == word(case, 88);
+    let bytes = left.regs == registers(from(case, 89));
+    told && bytes && left.held == irect(from(case, 91))
 }
 
 fn commanded(case: &[u8], px: &[u32]) -> bool {

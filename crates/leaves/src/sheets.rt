@@ -1,8 +1,8 @@
 // Sheet calls: a case has the call's kind, what is lent, what the call must answer and leave, and the bytes of the old and the
 // new sheet.
 use crate::lent::scratch;
+use cases::irect;
 use cases::word::{from, upto, word};
-use cases::{irect, same_box};
 use paint::paint;
 use patch::patch;
 use redraw::Reply;
@@ -14,7 +14,7 @@ fn old_sheet(case: &[u8]) -> &[u8] {
 
 // How many words n bytes fill.
 fn words(n: u32) -> u32 {
-    n / 4 + (n % 4 + 3) / 4
+    n.div_ceil(4)
 }
 
 // The sheet that is painted, or the new one of a patch: it stands after the old one.
@@ -26,9 +26,9 @@ fn new_sheet(case: &[u8]) -> &[u8] {
 // Whether a reply is as stored: number, item, box, and both counts.
 fn same_reply(r: Reply, words: &[u8]) -> bool {
     let a = r.answer;
-    let numbers = (a.number == word(words, 0)) & (a.item == word(words, 1));
-    let counts = (r.steps == word(words, 6) as u64) & (r.grounded == word(words, 7) as u64);
-    numbers & same_box(a.area, irect(from(words, 2))) & counts
+    let numbers = a.number == word(words, 0) && a.item == word(words, 1);
+    let counts = r.steps == word(words, 6) as u64 && r.grounded == word(words, 7) as u64;
+    numbers && a.area == irect(from(words, 2)) && counts
 }
 
 fn painted(case: &[u8], px: &mut [u32], scratch: &mut [f32]) -> bool {

@@ -4,18 +4,16 @@
 // steps that altered a pixel's value. Coordinates past the 12 are the words that follow.
 #![tactic(auto)]
 
-ghost use Rattle.std.specs.Prelude.{◌≡◌, length};
-
-use cases::canvas::{framed, none_saved, same_state};
-use cases::word::{float, from, least, word};
+use cases::canvas::{framed, same_state};
+use cases::word::{float, from, word};
 use cases::{color_of, paint, point, rect};
 use color::Color;
-use geom::Rect;
+use geom::{IRect, Rect};
 use gfx::{Canvas, Counted};
 use paints::Paint;
 
 fn canvas(case: &[u8]) -> Canvas {
-    framed(from(case, 1), none_saved(), 0)
+    framed(from(case, 1), [IRect::ZERO; 16], 0)
 }
 
 fn brush(case: &[u8]) -> Paint {
@@ -128,20 +126,16 @@ fn polygon(case: &[u8], px: &mut [u32], pts: &[f32], scratch: &mut [f32]) -> Tol
 }
 
 // The 130 floats of the first words.
-fn points(words: &[u8]) -> [f32; 130]
-    ensures { 130 ≡ length result }
-{
+fn points(words: &[u8]) -> [f32; 130] {
     let mut out = [0.0; 130];
-    let mut place: u32 = 0;
-    for i in 0..130 {
-        out[i] = float(words, place);
-        place = std::num::wrapping_add_u32(place, 1);
+    for (i, x) in out.iter_mut().enumerate() {
+        *x = float(words, i as u32);
     }
     out
 }
 
 fn joined(case: &[u8], px: &mut [u32], scratch: &mut [f32]) -> Told {
-    let n = least(word(case, 17) as usize, 130);
+    let n = (word(case, 17) as usize).min(130);
     let space = points(from(case, 18));
     if word(case, 0) == 2 {
         polyline(case, px, &space[..n])
@@ -166,7 +160,7 @@ fn placed(case: &[u8], px: &mut [u32]) -> Told {
 // Draws the shape of a case's words.
 pub fn shape(case: &[u8], px: &mut [u32], scratch: &mut [f32]) -> Told {
     let f = word(case, 0);
-    if (f == 2) | (f == 8) {
+    if f == 2 || f == 8 {
         joined(case, px, scratch)
     } else {
         placed(case, px)
