@@ -12,7 +12,13 @@ use redraw::Reply;
 use sheet::{Fault, check_sheet};
 
 // Patches px, or tells why a patch is refused: as either sheet is, then with 10, 14, 15, 8, 9.
-fn try_patch(old: &[u8], new: &[u8], pitch: usize, px: &mut [u32], scratch: &mut [f32]) -> Result<Reply, Fault>
+fn try_patch(
+    old: &[u8],
+    new: &[u8],
+    pitch: usize,
+    px: &mut [u32],
+    scratch: &mut [f32],
+) -> Result<Reply, Fault>
     ensures { Patched zero_word format old.now new.now pitch px.old scratch.old
         (reply_of result) px.new scratch.new }
 {
