@@ -24,6 +24,16 @@ use Rattle.clips.proofs.Shapes.{shape_own, shape_leaves}
 use Rattle.clips.proofs.Standing.{Standing, stands_start, clips_start, stands_next, clips_next}
 use Rattle.chosen.specs.Chosen.{chosen, Small}
 use Rattle.compact.specs.Compact.{kept_in}
+use mir.Val.{bool_byte}
+
+-- a test as a number
+pub one_most : (t : Bool) → bool_byte t ≤ 1
+one_most true = omega arith
+one_most false = omega arith
+
+pub as_number : (v t : Bool) → v ≡ not t → bool_byte v ≡ cond t 0 1
+as_number v true e = rw e
+as_number v false e = rw e
 
 -- ---- what may be written
 

@@ -2,7 +2,7 @@
 // Neither pixels nor scratch are lent.
 #![tactic(auto)]
 
-ghost use Rattle.std.specs.Prelude.{cond, ◌≡◌, ◌≤◌, length, take};
+ghost use Rattle.std.specs.Prelude.{◌≡◌, ◌≤◌, not, length, take};
 ghost use Rattle.geom.specs.Box.{meet, empty};
 ghost use Rattle.sheet.specs.Check.{verdict, sheet_check};
 ghost use Rattle.encode.specs.Encode.{Wrote};
@@ -19,14 +19,11 @@ use items::reaches::reach_of;
 use items::reader::item_bytes;
 use sheet::{check_sheet, u16_at};
 
-// 1 for a shape of whose reach something lies in a clip, else 0.
-fn in_view(b: &[u8], clip: IRect) -> usize
-    ensures { (result ≡ cond (empty (meet clip (reach_of b.now (item_of b.now)))) 0 1) × (result ≤ 1) }
+// Whether something of a shape's reach lies in a clip.
+fn in_view(b: &[u8], clip: IRect) -> bool
+    ensures { result ≡ not (empty (meet clip (reach_of b.now (item_of b.now)))) }
 {
-    if clip.intersect(reach_of(b)).is_empty() {
-        return 0;
-    }
-    1
+    !clip.intersect(reach_of(b)).is_empty()
 }
 
 // The numbers of the items that stay, put into the first of the places lent; how many there are is returned. A place is filled
@@ -43,7 +40,7 @@ fn keep(s: &[u8], kept: &mut [u16]) -> usize
         kept[count] = k as u16;
         if is_shape(b) {
             let clip = canvas.clip;
-            count += in_view(b, clip);
+            count += in_view(b, clip) as usize;
             continue;
         }
         canvas = state_after(b, canvas);
@@ -58,10 +55,8 @@ pub fn compact(sheet: &[u8], buf: &mut [u8]) -> Written
     ensures { Wrote (compact_number sheet.now (length buf.old))
         (sheet_check sheet.now).item (compacted sheet.now) buf.old result buf.new }
 {
-    let v = check_sheet(sheet);
-    let number = v.number;
-    if number != 0 {
-        return refused(number, v.item);
+    if let Err(fault) = check_sheet(sheet) {
+        return refused(fault.refusal.into(), fault.item);
     }
     let mut kept = [0; 1024];
     let count = keep(sheet, &mut kept);

@@ -28,6 +28,8 @@ use Rattle.clips.proofs.Shapes.{shape_own, shape_leaves}
 use Rattle.clips.proofs.Standing.{Standing, stands_start, clips_start, stands_next, clips_next}
 use Rattle.items.proofs.Readings.{reads_refused, reads_accepted}
 use Rattle.measure.specs.Walked.{Read, Small, cells_of, deepest_of, pixels_of, Walked}
+use Rattle.std.specs.Ordering.{ord_max}
+use Rattle.std.proofs.Common.{nat_cmp, rules}
 
 module _ (s : List ℕ) where
   -- what the clip lets through lies in the canvas
@@ -167,6 +169,10 @@ module _ (s : List ℕ) where
       }
 
 -- ---- the answer
+
+-- the larger of two by std's `max`
+pub larger_is : (a b : ℕ) → ord_max nat_cmp a b ≡ max a b
+larger_is a b = search rules
 
 pub refused_room : (s : List ℕ) (n k : ℕ) → sheet_check s ≡ verdict n k → (n ≡ 0 → ⊥) → room n k 0 0 0 ≡ measuring format s
 unfolding measuring room_of

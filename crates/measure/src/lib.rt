@@ -8,14 +8,11 @@ ghost use Rattle.redraw.specs.Measure.{measuring};
 ghost use Rattle.measure.specs.Walked.{Read, Small, cells_of, Walked};
 
 use clips::{is_shape, start_state, state_after};
-use draw::{Area, clipped, larger};
-use fill::fill_reach;
-use geom::IRect;
-use items::reaches::{need, reach};
+use draw::{Area, clipped};
+use items::reaches::{need, reach_of};
 use items::reader::item_bytes;
-use items::rect_of;
 use redraw::Room;
-use sheet::{byte_at, check_sheet, u16_at};
+use sheet::{Kind, check_sheet, kind_at, u16_at};
 
 // What the items of a sheet take: scratch words, the most clips saved at once, and the pixels in reach and clip together.
 #[derive(Clone, Copy)]
@@ -36,23 +33,14 @@ fn cells(a: Area) -> u64
 }
 
 // The scratch words that an item needs. A polygon alone needs any, so no other is asked.
+#[tactic(auto, unfolding(items::specs::Items::read_item, items::specs::Format::need_of))]
 fn words_of(b: &[u8]) -> usize
     ensures { result ≡ need_of b.now (item_of b.now) }
 {
-    if byte_at(b, 0) != 6 {
-        return 0;
+    match kind_at(b, 0) {
+        Ok(Kind::Poly) => need(b),
+        _ => 0,
     }
-    need(b)
-}
-
-// The reach of an item. A fill's is that of its rectangle, which spares most shapes of a ticket a call.
-fn reach_of(b: &[u8]) -> IRect
-    ensures { result ≡ reach_of b.now (item_of b.now) }
-{
-    if byte_at(b, 0) != 3 {
-        return reach(b);
-    }
-    fill_reach(rect_of(b))
 }
 
 // The items of an accepted sheet, one after the other.
@@ -68,14 +56,14 @@ fn walk(s: &[u8]) -> Tally
     for k in 0..n {
         let b = item_bytes(s, k as u16);
         if is_shape(b) {
-            words = larger(words, words_of(b));
+            words = words.max(words_of(b));
             let area = reach_of(b);
             let clip = canvas.clip;
             pixels += cells(clipped(area, clip));
             continue;
         }
         canvas = state_after(b, canvas);
-        most = larger(most, canvas.depth);
+        most = most.max(canvas.depth);
     }
     Tally {
         words,
@@ -88,23 +76,23 @@ fn walk(s: &[u8]) -> Tally
 pub fn measure(sheet: &[u8]) -> Room
     ensures { result ≡ measuring format sheet.now }
 {
-    let v = check_sheet(sheet);
-    let number = v.number;
-    if number != 0 {
-        return Room {
-            number,
-            item: v.item,
+    match check_sheet(sheet) {
+        Ok(()) => {
+            let tally = walk(sheet);
+            Room {
+                number: 0,
+                item: 0,
+                words: tally.words,
+                saved: tally.most,
+                pixels: tally.pixels,
+            }
+        }
+        Err(fault) => Room {
+            number: fault.refusal.into(),
+            item: fault.item,
             words: 0,
             saved: 0,
             pixels: 0,
-        };
-    }
-    let t = walk(sheet);
-    Room {
-        number: 0,
-        item: 0,
-        words: t.words,
-        saved: t.most,
-        pixels: t.pixels,
+        },
     }
 }

@@ -17,7 +17,7 @@ use Rattle.sheet.specs.Check.{offset_of, length_of, pairs_from, number_at, depth
 use Rattle.sheet.specs.declared.check.Fault.{Fault}
 
 -- no refusal has the number 0
-not_zero : (r : Refusal) → code r ≡ 0 → ⊥
+pub not_zero : (r : Refusal) → code r ≡ 0 → ⊥
 not_zero SheetLength e = omega arith
 not_zero Header e = omega arith
 not_zero Pairs e = omega arith

@@ -1,17 +1,16 @@
 -- `compact::compact` meets its contract. Assumes nothing.
 use Prim.Native.Nat.{ℕ}
 use mathlib.Core.List.{List}
-use mathlib.Core.Path.{◌≡◌, sym, ap, ◌∙◌}
+use mathlib.Core.Path.{◌≡◌, sym}
 use borrow.Author.Rules.{rules}
 use borrow.Author.Tests.{ne_eqb}
 use native.Mathlib.Omega.{arith}
 use lib.ListN.{length, take}
 use lib.Seq.{length-take-le}
 use Rattle.sheet.specs.Check.{verdict, sheet_check}
-use Rattle.sheet.specs.declared.check.Verdict.{Verdict}
+use Rattle.sheet.proofs.Runs.{not_zero}
 use Rattle.encode.specs.Encode.{fit_number, Wrote}
 use Rattle.encode.specs.declared.Written.{Written}
-use Rattle.items.proofs.Readings.{clean}
 use Rattle.chosen.specs.Chosen.{chosen, chosen_sheet}
 use Rattle.compact.specs.Compact.{kept_in, compacted, compact_number}
 use Rattle.compact.proofs.Walks.{small_of}
@@ -29,23 +28,13 @@ module _ (s buf : List ℕ) where
   unfolding compact_number compacted
   is_read e kept q r buf' w = rw (e, ← q) w
 
--- a sheet whose number is 0 was accepted
-was_read : (s : List ℕ) (v : Verdict) → v ≡ sheet_check s → v.number ≡ 0 → sheet_check s ≡ verdict 0 0
-was_read s v e z = clean s (sym (ap (λ (r : Verdict). r.number) e) ∙ z)
-
-pub check_sheet-v-requires : goal.check_sheet-v-requires
-check_sheet-v-requires c = tt
-
-pub refused-requires : goal.refused-requires
-refused-requires c = tt
-
-pub returns-then-number-ne0 : goal.returns-then-number-ne0
-returns-then-number-ne0 c =
+pub returns-in-Err : goal.returns-in-Err
+returns-in-Err c =
     let a = c.args in
-    not_read a.sheet.now a.buf.now _ _ (sym c.check_sheet-v.ensures) c.if-number-ne0.true _ c.refused.ensures
+    not_read a.sheet.now a.buf.now _ _ (sym c.in-Err.ensures) (not_zero c.in-Err.fault.refusal) _ (rw c.into.ensures at c.refused.ensures)
 
 pub keep-count-requires : goal.keep-count-requires
-keep-count-requires c = (was_read _ _ c.check_sheet-v.ensures c.if-number-ne0.false, search rules)
+keep-count-requires c = (sym c.in_default.ensures, search rules)
 
 pub slice_bounds-kept-end : goal.slice_bounds-kept-end
 slice_bounds-kept-end c = omega (arith, c.keep-count.ensures.1)
@@ -59,12 +48,10 @@ slice_bounds-write_chosen-end c =
 pub write_chosen-requires : goal.write_chosen-requires
 write_chosen-requires c =
     let kept = c.keep-count in
-    let e = was_read _ _ c.check_sheet-v.ensures c.if-number-ne0.false in
-    small_of _ e kept.new.kept kept.result kept.ensures.1
+    small_of _ (sym c.in_default.ensures) kept.new.kept kept.result kept.ensures.1
 
 pub returns : goal.returns
 returns c =
     let a = c.args in
     let kept = c.keep-count in
-    let e = was_read _ _ c.check_sheet-v.ensures c.if-number-ne0.false in
-    is_read a.sheet.now a.buf.now e (take kept.result kept.new.kept) kept.ensures.0 _ _ c.write_chosen.ensures
+    is_read a.sheet.now a.buf.now (sym c.in_default.ensures) (take kept.result kept.new.kept) kept.ensures.0 _ _ c.write_chosen.ensures

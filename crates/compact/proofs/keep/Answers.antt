@@ -1,28 +1,13 @@
 -- `compact::keep` meets its contract. The items chosen so far, and then those that are left and stay, are all that stay. Assumes nothing.
 use mathlib.Core.Path.{sym, ◌∙◌}
 use native.Mathlib.Omega.{arith}
-use Rattle.compact.proofs.Walks.{few_items, room, keeping_first, keeping_shape, keeping_other, keeping_end}
+use Rattle.compact.proofs.Walks.{one_most, as_number, few_items, room, keeping_first, keeping_shape, keeping_other, keeping_end}
 use Rattle.compact.proofs.keep.Goals as goal
-
-pub u16_at-n-requires : goal.u16_at-n-requires
-u16_at-n-requires c = tt
-
-pub start_state-canvas-requires : goal.start_state-canvas-requires
-start_state-canvas-requires c = tt
 
 pub loop-k-init : goal.loop-k-init
 loop-k-init c =
     let u = c.u16_at-n in
     rw c.start_state-canvas.ensures (keeping_first c.args.s.now c.requires.0 u.result u.ensures.0 c.args.kept.now c.requires.1)
-
-pub overflow_cast-k : goal.overflow_cast-k
-overflow_cast-k c = record { fits = omega (arith, c.u16_at-n.ensures.1) }
-
-pub item_bytes-b-requires : goal.item_bytes-b-requires
-item_bytes-b-requires c = tt
-
-pub overflow_cast-kept : goal.overflow_cast-kept
-overflow_cast-kept c = record { fits = omega (arith, c.u16_at-n.ensures.1) }
 
 pub offset_bounds-kept-count : goal.offset_bounds-kept-count
 offset_bounds-kept-count c = omega (arith, c.u16_at-n.ensures.1, c.loop-k.invariant.low)
@@ -33,21 +18,8 @@ bounds-kept-count c =
     room c.args.s.now c.requires.0 u.result u.ensures.0 c.loop-k.kept c.loop-k.canvas c.loop-k.count c.loop-k.k c.loop-k.invariant c.loop-k-test.true
 
 -- ---- a shape
-pub is_shape-requires : goal.is_shape-requires
-is_shape-requires c = tt
-
-pub in_view-count-requires : goal.in_view-count-requires
-in_view-count-requires c = tt
-
 pub overflow_add-count : goal.overflow_add-count
-overflow_add-count c =
-    omega (arith, c.in_view-count.ensures.1, c.loop-k.invariant.low, c.u16_at-n.ensures.1)
-
-pub overflow_step-k : goal.overflow_step-k
-overflow_step-k c = omega arith
-
-pub loop-k-smaller-then-is_shape : goal.loop-k-smaller-then-is_shape
-loop-k-smaller-then-is_shape c = omega arith
+overflow_add-count c = record { fits = omega (arith, one_most c.in_view.result, c.loop-k.invariant.low, c.u16_at-n.ensures.1) }
 
 pub loop-k-preserved-then-is_shape : goal.loop-k-preserved-then-is_shape
 loop-k-preserved-then-is_shape c =
@@ -55,21 +27,12 @@ loop-k-preserved-then-is_shape c =
     let u = c.u16_at-n in
     let i = rw p at (sym c.is_shape.ensures ∙ c.if-is_shape.true) in
     keeping_shape c.args.s.now c.requires.0 u.result u.ensures.0 c.loop-k.kept c.loop-k.canvas c.loop-k.count c.loop-k.k c.loop-k.invariant
-    c.loop-k-test.true i c.in_view-count.result (c.in_view-count.ensures.0 ∙ rw p)
+    c.loop-k-test.true i _ (as_number _ _ (c.in_view.ensures ∙ rw p))
 
 -- ---- a push or a pop
-pub state_after-canvas-requires : goal.state_after-canvas-requires
-state_after-canvas-requires c = tt
-
 pub overflow_add-count-in-loop-k : goal.overflow_add-count-in-loop-k
 overflow_add-count-in-loop-k c =
     omega (arith, c.loop-k.invariant.low, c.u16_at-n.ensures.1)
-
-pub overflow_step-k-in-loop-k : goal.overflow_step-k-in-loop-k
-overflow_step-k-in-loop-k c = omega arith
-
-pub loop-k-smaller : goal.loop-k-smaller
-loop-k-smaller c = omega arith
 
 pub loop-k-preserved : goal.loop-k-preserved
 loop-k-preserved c =

@@ -13,12 +13,6 @@ most a s =
     let h : a.y1 - a.y0 ≤ 2048 = omega (arith, s.high) in
     mul-le-mul w h
 
-pub overflow_sub-w : goal.overflow_sub-w
-overflow_sub-w c = omega (arith, c.requires.across)
-
-pub overflow_sub-h : goal.overflow_sub-h
-overflow_sub-h c = omega (arith, c.requires.down)
-
 pub overflow_mul-result : goal.overflow_mul-result
 overflow_mul-result c = omega (arith, most c.args.a c.requires)
 
