@@ -1,16 +1,20 @@
 -- What painting and patching share: the need of a sheet, and drawing in an area. No call of the library cites this file:
 -- `sheet_need` and `draw_in`, which both call, do. Assumes nothing.
-use Rattle.std.specs.Prelude.{ℕ, List, ◌≡◌, Float, pos, length}
+use Rattle.std.specs.Prelude.{ℕ, List, ◌≡◌, Float, pos, length, Ok, Err}
+use Rattle.std.specs.declared.result.Result.{Result}
+use Rattle.geom.specs.Refusals.{code}
 use Rattle.geom.specs.declared.IRect.{IRect}
 use Rattle.color.specs.Colours.{pix_of}
 use Rattle.draw.specs.Draw.{drawn, differ}
 use Rattle.gfx.specs.Calls.{left, px_number}
 use Rattle.gfx.specs.declared.Canvas.{Canvas}
 use Rattle.sheet.specs.Check.{width_of, height_of, count_of}
+use Rattle.sheet.specs.declared.check.Fault.{Fault}
 use Rattle.items.specs.Items.{ground_of}
 use Rattle.items.specs.Format.{needs, items_from}
 use Rattle.clips.specs.States.{state_in}
 use Rattle.redraw.specs.declared.Reply.{Reply}
+use Rattle.redraw.specs.Calls.{refused_by}
 use Rattle.render.specs.Stages.{Stage, stage, stages_from, steps_from, Left}
 
 -- the scratch words that a sheet needs: the greatest need among its polygons
@@ -38,3 +42,8 @@ pub record DrewSheet (s : List ℕ) (pitch : ℕ) (area : IRect) (px : List ℕ)
   pub grounds : r.grounded ≡ differ px (grounded_in s pitch area px)
   pub leaves : let all = stages_from s (count_of s) 0 (first_stage s pitch area px scratch) in
       Left all.px all.scratch (steps_from s (count_of s) 0 (first_stage s pitch area px scratch)) px' scratch' r.steps
+
+-- the reply of a call: its own, or that of a refused one
+abbrev pub reply_of : Result Reply Fault → Reply
+reply_of (Ok r) = r
+reply_of (Err f) = refused_by (code f.refusal) f.item

@@ -2,30 +2,36 @@
 #![tactic(auto)]
 
 ghost use Rattle.std.specs.Prelude.{◌≡◌};
+ghost use Rattle.geom.specs.Refusals.{code, number_of};
 ghost use Rattle.sheet.specs.Check.{bytes_at};
 ghost use Rattle.items.specs.Items.{item_of};
 ghost use Rattle.items.specs.Format.{need_of, sheet_of, format, zero_word};
 ghost use Rattle.redraw.specs.Sheet.{lent_number};
 ghost use Rattle.redraw.specs.Calls.{refused_by, Painted};
-ghost use Rattle.paint.specs.Paint.{need_in, DrewSheet};
+ghost use Rattle.paint.specs.Paint.{need_in, DrewSheet, reply_of};
 
 use clips::{canvas_of, first_state};
-use draw::{frame_number, larger};
+use draw::check_frame;
 use fill::fill_ground;
 use geom::IRect;
+use geom::checks::{Refusal, ensure};
 use items::ground;
 use items::reaches::need;
 use items::reader::item_bytes;
 use redraw::{Answer, Reply};
 use render::render;
-use sheet::{check_sheet, u16_at};
+use sheet::{Fault, check_sheet, u16_at};
 
 // The reply of a refused call: its box is four zeros, and it altered nothing.
-pub fn refusal(number: u32, item: u32) -> Reply
-    ensures { result ≡ refused_by number item }
+#[tactic(auto, unfolding(geom::specs::Box::no_box, redraw::specs::Sheet::refusal))]
+pub fn refusal(fault: Fault) -> Reply
+    ensures { result ≡ refused_by (code fault.refusal) fault.item }
 {
-    let area = IRect::new(0, 0, 0, 0);
-    let answer = Answer { number, item, area };
+    let answer = Answer {
+        number: fault.refusal.into(),
+        item: fault.item,
+        area: IRect::ZERO,
+    };
     Reply {
         answer,
         steps: 0,
@@ -40,30 +46,24 @@ fn need_at(s: &[u8], k: u16) -> usize
     need(item_bytes(s, k))
 }
 
-// The scratch words that a sheet needs.
+// The scratch words that a sheet needs. A loop: over `map` and `max` the proof does not close.
 pub fn sheet_need(s: &[u8]) -> usize
     ensures { result ≡ need_in s.now }
 {
-    let n = u16_at(s, 8);
     let mut most = 0;
-    for k in 0..n {
-        most = larger(most, need_at(s, k as u16));
+    for k in 0..u16_at(s, 8) as u16 {
+        most = most.max(need_at(s, k));
     }
     most
 }
 
-// The number that is given where n words of px, in rows of `pitch`, and so many scratch words are lent: 15, 8, then 9, or 0.
-pub fn lent_number(s: &[u8], pitch: usize, n: usize, words: usize) -> u32
-    ensures { result ≡ lent_number format (sheet_of s.now) pitch n words }
+// What is lent to a sheet: n words of px in rows of `pitch`, and so many scratch words. Refused with 15, 8, then 9.
+#[tactic(auto, unfolding(redraw::specs::Sheet::lent_number))]
+pub fn check_lent(s: &[u8], pitch: usize, n: usize, words: usize) -> Result<(), Refusal>
+    ensures { number_of result ≡ lent_number format (sheet_of s.now) pitch n words }
 {
-    let frame = frame_number(u16_at(s, 0), u16_at(s, 2), pitch, n);
-    if frame != 0 {
-        return frame;
-    }
-    if words < sheet_need(s) {
-        return 9;
-    }
-    0
+    check_frame(u16_at(s, 0), u16_at(s, 2), pitch, n)?;
+    ensure(sheet_need(s) <= words, Refusal::Scratch)
 }
 
 // Sets an area to the ground, and draws the sheet with the area as first clip: the reply of an accepted call.
@@ -86,20 +86,26 @@ pub fn draw_in(s: &[u8], pitch: usize, area: IRect, px: &mut [u32], scratch: &mu
     }
 }
 
+// Paints a sheet, or tells why it is refused.
+fn try_paint(
+    sheet: &[u8],
+    pitch: usize,
+    px: &mut [u32],
+    scratch: &mut [f32],
+) -> Result<Reply, Fault>
+    ensures { Painted zero_word format sheet.now pitch px.old scratch.old
+        (reply_of result) px.new scratch.new }
+{
+    check_sheet(sheet)?;
+    check_lent(sheet, pitch, px.len(), scratch.len())?;
+    Ok(draw_in(sheet, pitch, canvas_of(sheet), px, scratch))
+}
+
 // Paints a sheet: every pixel the ground, then its items in their order. The pixel in column x and row y is the word y × pitch +
 // x of px.
 pub fn paint(sheet: &[u8], pitch: usize, px: &mut [u32], scratch: &mut [f32]) -> Reply
     ensures { Painted zero_word format sheet.now pitch px.old scratch.old result
         px.new scratch.new }
 {
-    let v = check_sheet(sheet);
-    let number = v.number;
-    if number != 0 {
-        return refusal(number, v.item);
-    }
-    let lent = lent_number(sheet, pitch, px.len(), scratch.len());
-    if lent != 0 {
-        return refusal(lent, 0);
-    }
-    draw_in(sheet, pitch, canvas_of(sheet), px, scratch)
+    try_paint(sheet, pitch, px, scratch).unwrap_or_else(refusal)
 }

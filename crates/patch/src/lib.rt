@@ -3,32 +3,31 @@
 
 ghost use Rattle.items.specs.Format.{format, zero_word};
 ghost use Rattle.redraw.specs.Calls.{Patched};
-ghost use Rattle.patch.specs.Patch.{BothRead};
+ghost use Rattle.paint.specs.Paint.{reply_of};
 
 use compare::{changed, same_header};
-use paint::{draw_in, lent_number, refusal};
+use geom::checks::{Refusal, ensure};
+use paint::{check_lent, draw_in, refusal};
 use redraw::Reply;
-use sheet::check_sheet;
+use sheet::{Fault, check_sheet};
 
-// A patch between two sheets that were accepted: 10, 14, 15, 8, 9, or drawn.
-fn patch_read(old: &[u8], new: &[u8], pitch: usize, px: &mut [u32], scratch: &mut [f32]) -> Reply
-    requires { BothRead old.now new.now }
+// Patches px, or tells why a patch is refused: as either sheet is, then with 10, 14, 15, 8, 9.
+fn try_patch(
+    old: &[u8],
+    new: &[u8],
+    pitch: usize,
+    px: &mut [u32],
+    scratch: &mut [f32],
+) -> Result<Reply, Fault>
     ensures { Patched zero_word format old.now new.now pitch px.old scratch.old
-        result px.new scratch.new }
+        (reply_of result) px.new scratch.new }
 {
-    if !same_header(old, new) {
-        return refusal(10, 0);
-    }
-    let d = changed(old, new);
-    let number = d.number;
-    if number != 0 {
-        return refusal(number, 0);
-    }
-    let lent = lent_number(new, pitch, px.len(), scratch.len());
-    if lent != 0 {
-        return refusal(lent, 0);
-    }
-    draw_in(new, pitch, d.area, px, scratch)
+    check_sheet(old)?;
+    check_sheet(new)?;
+    ensure(same_header(old, new), Refusal::Difference)?;
+    let area = changed(old, new)?;
+    check_lent(new, pitch, px.len(), scratch.len())?;
+    Ok(draw_in(new, pitch, area, px, scratch))
 }
 
 // Patches px, which shows the old sheet, to the new one.
@@ -36,15 +35,5 @@ pub fn patch(old: &[u8], new: &[u8], pitch: usize, px: &mut [u32], scratch: &mut
     ensures { Patched zero_word format old.now new.now pitch px.old scratch.old
         result px.new scratch.new }
 {
-    let a = check_sheet(old);
-    let first = a.number;
-    if first != 0 {
-        return refusal(first, a.item);
-    }
-    let b = check_sheet(new);
-    let second = b.number;
-    if second != 0 {
-        return refusal(second, b.item);
-    }
-    patch_read(old, new, pitch, px, scratch)
+    try_patch(old, new, pitch, px, scratch).unwrap_or_else(refusal)
 }

@@ -10,7 +10,7 @@ use patch::patch;
 use redraw::Reply;
 
 // What the last call returned, and where the sheet accepted last lies; after a refused painting there is none, and both bounds
-// are 0.
+// are 0. The bounds are two fields and no range, since `standing` and `Ran`, the contract of `replay`, name them.
 #[derive(Clone, Copy)]
 pub struct Replayed {
     pub reply: Reply,
@@ -23,10 +23,7 @@ fn end_of(sheets: &[u8], at: usize, n: usize) -> usize
     requires { at ≤ length sheets.now }
     ensures { result ≡ at + min n (length sheets.now - at) }
 {
-    if sheets.len() - at < n {
-        return sheets.len();
-    }
-    at + n
+    at + n.min(sheets.len() - at)
 }
 
 // A patch from the kept sheet to sheets[at..end].
@@ -44,18 +41,16 @@ fn advance(
         (next zero_word format pitch (standing sheets.now kept px.old scratch.old)
         (part at end sheets.now)) result px.new scratch.new }
 {
-    let from = kept.from;
-    let to = kept.to;
-    let reply = patch(&sheets[from..to], &sheets[at..end], pitch, px, scratch);
-    let n = reply.answer.number;
-    if n == 0 {
-        return Replayed {
+    let reply = patch(&sheets[kept.from..kept.to], &sheets[at..end], pitch, px, scratch);
+    if reply.answer.number == 0 {
+        Replayed {
             reply,
             from: at,
             to: end,
-        };
+        }
+    } else {
+        Replayed { reply, ..kept }
     }
-    Replayed { reply, from, to }
 }
 
 // A patch to each of the sheets that begin at `start`, by their lengths.
@@ -75,12 +70,10 @@ fn patches(
 {
     let mut s = state;
     let mut at = start;
-    let mut k = 0;
-    while k < lens.len() {
-        let end = end_of(sheets, at, lens[k]);
+    for &n in lens {
+        let end = end_of(sheets, at, n);
         s = advance(sheets, s, at, end, pitch, px, scratch);
         at = end;
-        k += 1;
     }
     s
 }
@@ -103,8 +96,7 @@ pub fn replay(
 {
     let end = end_of(sheets, 0, first);
     let reply = paint(&sheets[..end], pitch, px, scratch);
-    let n = reply.answer.number;
-    if n != 0 {
+    if reply.answer.number != 0 {
         return Replayed {
             reply,
             from: 0,

@@ -4,18 +4,6 @@ use Rattle.gfx.proofs.Steps.{steps_left}
 use Rattle.paint.specs.Paint.{grounded_in}
 use Rattle.paint.proofs.draw_in.Goals as goal
 
-pub first_state-state-requires : goal.first_state-state-requires
-first_state-state-requires c = tt
-
-pub ground-requires : goal.ground-requires
-ground-requires c = tt
-
-pub fill_ground-grounded-requires : goal.fill_ground-grounded-requires
-fill_ground-grounded-requires c = tt
-
-pub render-steps-requires : goal.render-steps-requires
-render-steps-requires c = tt
-
 pub returns : goal.returns
 unfolding grounded_in
 returns c =

@@ -5,7 +5,4 @@ use Rattle.items.specs.Format.{needs, items_from}
 use Rattle.paint.proofs.sheet_need.Given as goal
 
 abbrev pub invariant-loop-k : goal.invariant-loop-k
-invariant-loop-k l = (max l.most (needs (items_from l.s (l.n - l.k) l.k)) ≡ needs (items_from l.s l.n 0)) × (l.k ≤ l.n)
-
-abbrev pub decreases-loop-k : goal.decreases-loop-k
-decreases-loop-k l = l.n - l.k
+invariant-loop-k l = (max l.most (needs (items_from l.s (l.k-end - l.k) l.k)) ≡ needs (items_from l.s l.k-end 0)) × (l.k ≤ l.k-end)

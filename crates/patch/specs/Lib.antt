@@ -1,2 +1,0 @@
--- The definitions that the contracts of patch cite. Assumes nothing.
-pub mod Patch
