@@ -6,10 +6,15 @@ fn digit(d: u32) -> u8
     requires { d < 16 }
     ensures { result ≡ digit_of d }
 {
-    if d < 10 { 48 + d as u8 } else { 55 + d as u8 }
+    if d < 10 {
+        b'0' + d as u8
+    } else {
+        b'A' + (d - 10) as u8
+    }
 }
 
 // The 8 digits of a pixel, the highest first.
+#[tactic(auto, unfolding(crate::specs::Picture::pixel_text))]
 fn pixel(p: u32) -> [u8; 8]
     ensures { result ≡ pixel_text p }
 {
@@ -35,6 +40,7 @@ fn after(k: usize, w: usize) -> u8
 }
 
 // Byte i of the text.
+#[tactic(auto, unfolding(crate::specs::Picture::byte_of))]
 fn byte(px: &[u32], w: usize, i: usize) -> u8
     requires w_nonzero { 0 < w }
     requires i_bound { i < 9 * length px.now }
@@ -42,11 +48,7 @@ fn byte(px: &[u32], w: usize, i: usize) -> u8
 {
     let k = i / 9;
     let j = i % 9;
-    if j < 8 {
-        let digits = pixel(px[k]);
-        return digits[j];
-    }
-    after(k, w)
+    if j < 8 { pixel(px[k])[j] } else { after(k, w) }
 }
 
 // The text of a canvas of w columns.
@@ -55,7 +57,7 @@ pub(crate) fn picture(px: &[u32], w: usize, out: &mut [u8])
     requires out_len { length out.old ≡ 9 * length px.now }
     ensures { out.new ≡ picture_of w px.now }
 {
-    for i in 0..out.len() {
-        out[i] = byte(px, w, i);
+    for (i, x) in out.iter_mut().enumerate() {
+        *x = byte(px, w, i);
     }
 }
