@@ -22,7 +22,7 @@ fn lent(s: &[u8], n: usize) -> usize
     ensures { (result ≡ lent_of s.now n) × (result ≤ n) }
 {
     let area = u16_at(s, 0) * u16_at(s, 2);
-    if area < n { area } else { n }
+    area.min(n)
 }
 
 // A number in decimal, put at a place. Returns where it ends.
