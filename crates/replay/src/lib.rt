@@ -41,7 +41,13 @@ fn advance(
         (next zero_word format pitch (standing sheets.now kept px.old scratch.old)
         (part at end sheets.now)) result px.new scratch.new }
 {
-    let reply = patch(&sheets[kept.from..kept.to], &sheets[at..end], pitch, px, scratch);
+    let reply = patch(
+        &sheets[kept.from..kept.to],
+        &sheets[at..end],
+        pitch,
+        px,
+        scratch,
+    );
     if reply.answer.number == 0 {
         Replayed {
             reply,

@@ -1,13 +1,14 @@
 -- `paint::try_paint` meets its contract, each return by its law. Assumes nothing.
 use Rattle.std.proofs.Common.{rules, sym}
 use Rattle.geom.specs.Refusals.{code}
+use Rattle.sheet.proofs.Runs.{not_zero}
 use Rattle.items.specs.Format.{sheet_of, format, zero_word}
 use Rattle.redraw.proofs.Rules.{paint_refused, paint_unlent, paint_draws, does_refused}
 use Rattle.redraw.proofs.Lists.{lends_of}
 use Rattle.items.proofs.Readings.{reads_accepted}
 use Rattle.clips.proofs.Standing.{whole}
 use Rattle.paint.proofs.Painting.{drawn_does}
-use Rattle.paint.proofs.Refused.{not_zero, sheet_refused}
+use Rattle.paint.proofs.Refused.{sheet_refused}
 use Rattle.paint.proofs.try_paint.Goals as goal
 
 pub returns-in_err-check_sheet : goal.returns-in_err-check_sheet

@@ -1,6 +1,7 @@
 -- `patch::try_patch` meets its contract. Each return by its law. Assumes nothing.
 use Rattle.std.proofs.Common.{rules, sym, ap, ◌∙◌}
 use Rattle.geom.specs.Refusals.{code}
+use Rattle.sheet.proofs.Runs.{not_zero}
 use Rattle.items.specs.Format.{sheet_of, format, zero_word}
 use Rattle.items.proofs.Readings.{reads_accepted}
 use Rattle.redraw.proofs.Lists.{lends_of}
@@ -8,7 +9,7 @@ use Rattle.redraw.proofs.Rules.{patch_old_refused, patch_new_refused, does_refus
 use Rattle.compare.specs.Compare.{Difference}
 use Rattle.compare.proofs.Changes.{held, failed}
 use Rattle.paint.proofs.Painting.{drawn_does}
-use Rattle.paint.proofs.Refused.{not_zero, sheet_refused}
+use Rattle.paint.proofs.Refused.{sheet_refused}
 use Rattle.patch.proofs.Patching.{other_header, not_allowed, not_lent, drawn_new, box_clip}
 use Rattle.patch.proofs.try_patch.Goals as goal
 
