@@ -1,13 +1,14 @@
 // Drawing into lent pixels, in rows of a pitch: the definitions are in specs/, the laws of its loops in proofs/. No public call.
 #![tactic(auto)]
 
-ghost use Rattle.std.specs.Prelude.{◌≡◌, ◌≤◌, ℕ, min, max, length};
+ghost use Rattle.std.specs.Prelude.{◌≡◌, ◌≤◌, ◌<◌, ℕ, length};
 ghost use Rattle.geom.specs.Refusals.{number_of};
 ghost use Rattle.draw.specs.Areas.{area_of, clip_to, SpanFits, DrewSpan, TakesPixels, Inks, AreaFits, DrewIn, TakesRows, DrawsRows};
+ghost use Rattle.draw.specs.Held.{Holds};
 ghost use Rattle.draw.specs.Frame.{pitch_number, frame_number};
 
 use color::Inked;
-use geom::checks::{Refusal, ensure, number};
+use geom::checks::{Refusal, ensure};
 use geom::{IRect, nat_of};
 
 // A half-open box of pixels within the canvas: columns x0 up to x1, rows y0 up to y1.
@@ -65,19 +66,6 @@ pub fn clipped(reach: IRect, clip: IRect) -> Area
     }
 }
 
-pub fn larger(a: usize, b: usize) -> usize
-    ensures { result ≡ max a b }
-{
-    a.max(b)
-}
-
-// v brought to hi or below, and then to lo or above.
-pub fn between(v: usize, lo: usize, hi: usize) -> usize
-    ensures { result ≡ max lo (min v hi) }
-{
-    v.min(hi).max(lo)
-}
-
 // A pitch for a canvas of w columns: refused with 15 outside its range.
 #[tactic(auto, unfolding(crate::specs::Frame::pitch_number, crate::specs::Frame::pitch_ok))]
 pub fn check_pitch(w: usize, pitch: usize) -> Result<(), Refusal>
@@ -96,12 +84,17 @@ pub fn check_frame(w: usize, h: usize, pitch: usize, n: usize) -> Result<(), Ref
     ensure(n == pitch * h, Refusal::Pixels)
 }
 
-// The number of `check_frame`, 0 where it passes.
-pub fn frame_number(w: usize, h: usize, pitch: usize, n: usize) -> u32
-    requires { h ≤ 65535 }
-    ensures { result ≡ frame_number w h pitch n }
+// Numbers of which the places from x0 up to x1 are filled by a function.
+pub fn filled<const N: usize, F: Fn(usize) -> u32>(x0: usize, x1: usize, f: F) -> [u32; N]
+    requires places { (x0 ≤ x1) × (x1 ≤ N) }
+    requires callable { (x : ℕ) → x0 ≤ x → x < x1 → F.pre f x }
+    ensures { (g : ℕ → ℕ) → ((x v : ℕ) → x0 ≤ x → x < x1 → F.post f x v → v ≡ g x) → Holds g x0 x1 result }
 {
-    number(check_frame(w, h, pitch, n))
+    let mut row = [0; N];
+    for x in x0..x1 {
+        row[x] = f(x);
+    }
+    row
 }
 
 impl Span {

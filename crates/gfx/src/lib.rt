@@ -20,7 +20,7 @@ ghost use Rattle.gfx.specs.Calls.{resized, resized_px, state_number, push_box_nu
 ghost use Rattle.gfx.specs.Calls.{shape_number, nearest_in, pixel_at};
 
 use crate::checks::{check_new, check_size, clip_ok, in_canvas, place_ok, raise, side_ok};
-pub use crate::points::{check_points, coords_ok, points_number, points_ok};
+pub use crate::points::{check_points, coords_ok, points_ok};
 use color::{Color, Pixel};
 use draw::{check_frame, check_pitch};
 use geom::checks::{Refusal, ensure, number};
@@ -227,13 +227,6 @@ impl Canvas {
     {
         self.check_px(n)?;
         ensure(ok, Refusal::Float)
-    }
-
-    // The number of `check_shape`, 0 where it passes.
-    pub fn shape_number(self, n: usize, ok: bool) -> u32
-        ensures { result ≡ shape_number self n ok }
-    {
-        number(self.check_shape(n, ok))
     }
 
     // The number of `check_px`, 0 where it passes.

@@ -4,7 +4,7 @@ ghost use Rattle.geom.specs.Refusals.{number_of};
 ghost use Rattle.gfx.specs.Points.{points_ok, coords_ok, points_number};
 
 use crate::Canvas;
-use geom::checks::{Refusal, ensure, number};
+use geom::checks::{Refusal, ensure};
 use geom::float_ok;
 
 // An even count of coordinates, of at most 64 points: refusal 13 is given for any other.
@@ -31,11 +31,4 @@ pub fn check_points(canvas: Canvas, n: usize, pts: &[f32], others: bool) -> Resu
     canvas.check_px(n)?;
     ensure(points_ok(pts), Refusal::Points)?;
     ensure(coords_ok(pts) & others, Refusal::Float)
-}
-
-// The number of `check_points`, 0 where it passes.
-pub fn points_number(canvas: Canvas, n: usize, pts: &[f32], others: bool) -> u32
-    ensures { result ≡ points_number canvas n pts.now others }
-{
-    number(check_points(canvas, n, pts, others))
 }

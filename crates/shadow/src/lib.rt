@@ -16,7 +16,7 @@ ghost use Rattle.shadow.specs.Shadow.{corner_upto, shade_ink, shadow_ink};
 ghost use Rattle.shadow.specs.Levels.{table_alpha, Faded};
 
 use color::{Color, over, over_wide};
-use draw::{Area, Span, clipped};
+use draw::{Area, Span, clipped, filled};
 use falloff::falloff;
 use geom::checks::Refusal;
 use geom::{IRect, Rect, floats_ok, nat_of};
@@ -145,12 +145,7 @@ impl Shade<'_> {
         requires { (x0 ≤ x1) × (x1 ≤ 2048) }
         ensures { Holds (column_alpha self.entry) x0 x1 result }
     {
-        let mut cols = [0u32; 2048];
-        // By index: the columns' own numbers are what the alphas are told by, and a slice would count them from 0.
-        for x in x0..x1 {
-            cols[x] = self.column_alpha(x);
-        }
-        cols
+        filled(x0, x1, |x| self.column_alpha(x))
     }
 
     // The alpha beside the middle of a straight row, from that of its column and that of the row.
@@ -210,11 +205,7 @@ impl Shade<'_> {
         requires { (x0 + n ≤ 2048) × (n ≤ 128) }
         ensures { Holds (side_alpha self.entry qy x0) 0 n result }
     {
-        let mut alphas = [0u32; 128];
-        for (k, alpha) in alphas[..n].iter_mut().enumerate() {
-            *alpha = self.corner_side(qy, centre((x0 + k) as u16));
-        }
-        alphas
+        filled(0, n, |k| self.corner_side(qy, centre((x0 + k) as u16)))
     }
 
     // At most 128 columns of any other row, beside its middle: their alphas first, then all pixels.

@@ -15,7 +15,7 @@ ghost use Rattle.stroke.specs.Stroke.{ring_ok};
 ghost use Rattle.stroke.specs.Rows.{BlankFrom, BlankUpto, width_of, GapOf, RowGap, LevelIn, LevelPart, column_cover};
 
 use color::{Color, blend_c, blend_c_wide};
-use draw::{Area, Span, clipped};
+use draw::{Area, Span, clipped, filled};
 use geom::checks::Refusal;
 use geom::{IRect, Rect, floats_ok, nat_of};
 use gfx::{Canvas, Counted};
@@ -71,19 +71,6 @@ fn side_width(s: Rounded, width: f32, corner: bool) -> f32
     ensures { result ≡ width_of corner s width }
 {
     if corner { s.r + 1.0 } else { width + 1.0 }
-}
-
-// Numbers of which the places from x0 up to x1 are filled by a function.
-fn filled<const N: usize, F: Fn(usize) -> u32>(x0: usize, x1: usize, f: F) -> [u32; N]
-    requires places { (x0 ≤ x1) × (x1 ≤ N) }
-    requires callable { (x : ℕ) → x0 ≤ x → x < x1 → F.pre f x }
-    ensures { (g : ℕ → ℕ) → ((x v : ℕ) → x0 ≤ x → x < x1 → F.post f x v → v ≡ g x) → Holds g x0 x1 result }
-{
-    let mut row = [0; N];
-    for x in x0..x1 {
-        row[x] = f(x);
-    }
-    row
 }
 
 // The columns between the two sides of a row that is not full: of one that passes a rounded corner, or of any other.

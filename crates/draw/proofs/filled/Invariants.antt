@@ -1,7 +1,7 @@
--- `stroke::filled` meets its contract. The places before x are filled. Assumes nothing.
+-- `draw::filled` meets its contract. The places before x are filled. Assumes nothing.
 use Rattle.std.proofs.Common.{◌≡◌, ◌≤◌, ◌<◌, ℕ}
 use Rattle.draw.proofs.Held.{Filling}
-use Rattle.stroke.proofs.filled.Given as goal
+use Rattle.draw.proofs.filled.Given as goal
 
 abbrev pub invariant-loop-x : goal.invariant-loop-x
 invariant-loop-x g l =

@@ -1,8 +1,8 @@
--- `stroke::filled` meets its contract. The places before x are filled. Assumes nothing.
+-- `draw::filled` meets its contract. The places before x are filled. Assumes nothing.
 use native.Mathlib.Omega.{arith}
 use Rattle.std.proofs.lemmas.List.{length-replicate}
 use Rattle.draw.proofs.Held.{held_start, held_next}
-use Rattle.stroke.proofs.filled.Goals as goal
+use Rattle.draw.proofs.filled.Goals as goal
 
 pub loop-x-init : goal.loop-x-init
 loop-x-init g c = λ h a. held_start (length-replicate g.row.N 0) c.requires.places.0
