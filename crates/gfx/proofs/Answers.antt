@@ -106,14 +106,6 @@ module _ {n m : ℕ} (e : m ≡ n) where
     unfolding answer
     refused_state given next = done_is e (stays next given)
 
-    pub refused_pixel : (v : ℕ) → ◌≡◌ {A = Pixel} (record { number = m; value = 0 }) (pixel_answer n v)
-    unfolding pixel_answer
-    refused_pixel v = pixel_is e (stays v 0)
-
-    pub refused_box : (b : IRect) → ◌≡◌ {A = Boxed} (record { number = m; area = no_box }) (box_answer n b)
-    unfolding box_answer
-    refused_box b = box_is e (stays b no_box)
-
     pub refused_call : {given next : Canvas} {px drawn : List ℕ} → Called n given next px drawn (record { number = m; canvas = given }) px
     unfolding left
     refused_call {given} {next} {px} {drawn} = record { answers = refused_state given next; paints = stays drawn px }
@@ -131,14 +123,6 @@ module _ {n m : ℕ} (e : m ≡ n) where
     pub accepted_state : (given next : Canvas) → ◌≡◌ {A = Done} (record { number = m; canvas = next }) (answer n given next)
     unfolding answer
     accepted_state given next = done_is e (follows next given)
-
-    pub accepted_pixel : (v : ℕ) → ◌≡◌ {A = Pixel} (record { number = m; value = v }) (pixel_answer n v)
-    unfolding pixel_answer
-    accepted_pixel v = pixel_is e (follows v 0)
-
-    pub accepted_box : (b : IRect) → ◌≡◌ {A = Boxed} (record { number = m; area = b }) (box_answer n b)
-    unfolding box_answer
-    accepted_box b = box_is e (follows b no_box)
 
     pub accepted_call : {given next : Canvas} {px drawn : List ℕ} → Called n given next px drawn (record { number = m; canvas = next }) drawn
     unfolding left
