@@ -53,6 +53,7 @@ fn kinds_of(number: usize, kinds: &mut [Kind]) -> usize
 {
     let mut from = 6;
     let mut rest = number;
+    // Counted down by hand: a proof knows nothing of what is written through a reversed `iter_mut`.
     while 0 < rest {
         from -= 1;
         kinds[from] = Kind::of((rest - 1) % 3);
