@@ -133,6 +133,7 @@ pub fn blend_c_wide(dst: u32, c: Color, cov: u32) -> Inked
     over_wide(dst, c, covered_wide(c.a, cov))
 }
 
+// 11 as a number, since this crate stands beside geom, which has `Refusal`.
 const REFUSED: BlendAnswer = BlendAnswer {
     number: 11,
     value: 0,
@@ -144,16 +145,10 @@ const REFUSED: BlendAnswer = BlendAnswer {
 pub fn blend(dst: u32, r: u32, g: u32, b: u32, a: u32) -> BlendAnswer
     ensures { result ≡ blend_of dst r g b a }
 {
-    if r > 255 {
+    let (Ok(r), Ok(g), Ok(b)) = (u8::try_from(r), u8::try_from(g), u8::try_from(b)) else {
         return REFUSED;
-    }
-    if g > 255 {
-        return REFUSED;
-    }
-    if b > 255 {
-        return REFUSED;
-    }
-    let q = over(dst, Color::rgb(r as u8, g as u8, b as u8), a);
+    };
+    let q = over(dst, Color::rgb(r, g, b), a);
     BlendAnswer {
         number: 0,
         value: q.value,

@@ -23,7 +23,7 @@ use crate::checks::{check_new, check_size, clip_ok, in_canvas, place_ok, raise, 
 pub use crate::points::{check_points, coords_ok, points_ok};
 use color::{Color, Pixel};
 use draw::{check_frame, check_pitch};
-use geom::checks::{Refusal, ensure, number};
+use geom::checks::{Refusal, ensure};
 use geom::{IRect, Rect, nat_of};
 
 // A canvas without its pixels: its sides, the words of a row of px, its clip, and up to 16 saved clips, of which `depth` are in
@@ -227,13 +227,6 @@ impl Canvas {
     {
         self.check_px(n)?;
         ensure(ok, Refusal::Float)
-    }
-
-    // The number of `check_px`, 0 where it passes.
-    pub fn px_number(self, n: usize) -> u32
-        ensures { result ≡ px_number self n }
-    {
-        number(self.check_px(n))
     }
 
     // What `resize` tests: the pitch must be neither below the width of the state nor below the one wanted.

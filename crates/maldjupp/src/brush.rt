@@ -1,10 +1,14 @@
 // A paint as C lays it out, since an enum does not cross.
 ghost use Rattle.std.specs.Prelude.{◌≡◌};
+ghost use Rattle.geom.specs.Refusals.{number_of, unless, and_then};
+ghost use Rattle.gfx.specs.Calls.{px_number};
+ghost use Rattle.gfx.specs.Points.{points_ok};
 ghost use Rattle.maldjupp.specs.Brushes.{paint_of, five_number, points_kind_number};
 
 use color::Color;
 use geom::Pt;
-use gfx::{Canvas, points_ok};
+use geom::checks::{Refusal, ensure};
+use gfx::{Canvas, Counted, points_ok};
 use paints::Paint;
 
 // As in a sheet: a kind of 0 to 3, two colours and four numbers. What the kind does not use is not read.
@@ -52,24 +56,27 @@ impl Brush {
     }
 }
 
-// The number of a call on n lent words that 5 is given for: its brush has a kind over 3, or the `skip` of its shadow is over 1.
-pub fn five_number(canvas: Canvas, n: usize) -> u32
-    ensures { result ≡ five_number canvas n }
+// The answer of a call on n lent words that 5 is given for: its brush has a kind over 3, or the `skip` of its shadow is over 1.
+// 12, 15 and 8 come before.
+#[tactic(auto, unfolding(crate::specs::Brushes::five_number))]
+pub fn refused_kind(canvas: Canvas, n: usize) -> Counted
+    ensures { result ≡ record { number = five_number canvas n; canvas = canvas; steps = 0 } }
 {
-    let number = canvas.px_number(n);
-    if number != 0 {
-        return number;
-    }
-    5
+    Counted::of(canvas, canvas.check_px(n).and(Err(Refusal::ZeroByte)))
+}
+
+// What is tested before 5 in a call with points: 12, 15, 8, then 13.
+fn check_before(canvas: Canvas, n: usize, pts: &[f32]) -> Result<(), Refusal>
+    ensures { number_of result ≡ and_then (px_number canvas n) (unless (points_ok pts.now) 13 0) }
+{
+    canvas.check_px(n)?;
+    ensure(points_ok(pts), Refusal::Points)
 }
 
 // The same of a call with points, whose brush has a kind over 3.
-pub fn points_kind_number(canvas: Canvas, n: usize, pts: &[f32]) -> u32
-    ensures { result ≡ points_kind_number canvas n pts.now }
+#[tactic(auto, unfolding(crate::specs::Brushes::points_kind_number))]
+pub fn refused_points_kind(canvas: Canvas, n: usize, pts: &[f32]) -> Counted
+    ensures { result ≡ record { number = points_kind_number canvas n pts.now; canvas = canvas; steps = 0 } }
 {
-    let number = canvas.px_number(n);
-    if number != 0 {
-        return number;
-    }
-    if points_ok(pts) { 5 } else { 13 }
+    Counted::of(canvas, check_before(canvas, n, pts).and(Err(Refusal::ZeroByte)))
 }

@@ -15,7 +15,7 @@ ghost use Rattle.shadow.specs.Shadow.{shadow_ok, shadow_reach, shadow_ink};
 ghost use Rattle.maldjupp.specs.Brushes.{paint_of, Brushed, points_brush_number};
 ghost use Rattle.maldjupp.specs.Skips.{skip_of, skip_number};
 
-use crate::brush::{Brush, five_number, points_kind_number};
+use crate::brush::{Brush, refused_kind, refused_points_kind};
 use color::Color;
 use fill::{fill_circle, fill_rect, fill_rrect};
 use geom::{Pt, Rect};
@@ -37,12 +37,7 @@ pub extern "C" fn maldjupp_fill_rrect(
     ensures { Brushed canvas brush (rrect_floats rect r (paint_of brush)) rect r px.old result px.new }
 {
     if brush.kind > 3 {
-        let number = five_number(canvas, px.len());
-        return Counted {
-            number,
-            canvas,
-            steps: 0,
-        };
+        return refused_kind(canvas, px.len());
     }
     fill_rrect(canvas, px, rect, r, brush.paint())
 }
@@ -58,12 +53,7 @@ pub extern "C" fn maldjupp_fill_rect(
     ensures { Brushed canvas brush (rect_floats rect (paint_of brush)) rect f0 px.old result px.new }
 {
     if brush.kind > 3 {
-        let number = five_number(canvas, px.len());
-        return Counted {
-            number,
-            canvas,
-            steps: 0,
-        };
+        return refused_kind(canvas, px.len());
     }
     fill_rect(canvas, px, rect, brush.paint())
 }
@@ -82,12 +72,7 @@ pub extern "C" fn maldjupp_fill_circle(
         px.new }
 {
     if brush.kind > 3 {
-        let number = five_number(canvas, px.len());
-        return Counted {
-            number,
-            canvas,
-            steps: 0,
-        };
+        return refused_kind(canvas, px.len());
     }
     fill_circle(canvas, px, cx, cy, r, brush.paint())
 }
@@ -174,12 +159,7 @@ pub extern "C" fn maldjupp_fill_poly(
         px.new scratch.new }
 {
     if brush.kind > 3 {
-        let number = points_kind_number(canvas, px.len(), pts);
-        return Counted {
-            number,
-            canvas,
-            steps: 0,
-        };
+        return refused_points_kind(canvas, px.len(), pts);
     }
     fill_poly(canvas, px, pts, brush.paint(), scratch)
 }
@@ -200,12 +180,7 @@ pub extern "C" fn maldjupp_shadow_rrect(
         (shadow_ink rect r blur color (skip_of skip)) px.old) result px.new }
 {
     if skip > 1 {
-        let number = five_number(canvas, px.len());
-        return Counted {
-            number,
-            canvas,
-            steps: 0,
-        };
+        return refused_kind(canvas, px.len());
     }
     shadow_rrect(canvas, px, rect, r, blur, color, skip == 1)
 }

@@ -7,12 +7,8 @@ use Rattle.maldjupp.proofs.shapes.maldjupp_fill_poly.Goals as goal
 
 pub returns-then-brush-gt3 : goal.returns-then-brush-gt3
 returns-then-brush-gt3 c =
-    let e = c.points_kind_number-number.ensures in
     let over = lt-leb _ 3 c.if-brush-gt3.true in
-    record {
-      called = refused_shape (e ∙ points_kind_over _ _ _ _ _ over) (λ z. points_kind_some _ _ _ (sym e ∙ z));
-      clears = points_kind_stays _ _ _ _ _ _ _ over;
-    }
+    rw c.refused_points_kind.ensures (record { called = refused_shape (points_kind_over _ _ _ _ _ over) (points_kind_some _ _ _); clears = points_kind_stays _ _ _ _ _ _ _ over })
 
 pub returns : goal.returns
 returns c =

@@ -7,8 +7,7 @@ use Rattle.maldjupp.proofs.shapes.maldjupp_fill_rrect.Goals as goal
 
 pub returns-then-brush-gt3 : goal.returns-then-brush-gt3
 returns-then-brush-gt3 c =
-    let e = c.five_number-number.ensures in
-    refused_shape (e ∙ kind_over _ _ _ _ (lt-leb _ 3 c.if-brush-gt3.true)) (λ z. five_some _ _ (sym e ∙ z))
+    rw c.refused_kind.ensures (refused_shape (kind_over _ _ _ _ (lt-leb _ 3 c.if-brush-gt3.true)) (five_some _ _))
 
 pub returns : goal.returns
 returns c =

@@ -7,8 +7,7 @@ use Rattle.maldjupp.proofs.shapes.maldjupp_shadow_rrect.Goals as goal
 
 pub returns-then-skip-gt1 : goal.returns-then-skip-gt1
 returns-then-skip-gt1 c =
-    let e = c.five_number-number.ensures in
-    refused_shape (e ∙ skip_over _ _ _ _ (lt-leb _ 1 c.if-skip-gt1.true)) (λ z. five_some _ _ (sym e ∙ z))
+    rw c.refused_kind.ensures (refused_shape (skip_over _ _ _ _ (lt-leb _ 1 c.if-skip-gt1.true)) (five_some _ _))
 
 pub shadow_rrect-requires : goal.shadow_rrect-requires
 shadow_rrect-requires c = tt
