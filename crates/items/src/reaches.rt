@@ -22,7 +22,8 @@ use stroke::stroke_reach;
 #[tactic(auto, using(crate::proofs::PolyPoints::coords_take, crate::proofs::PolyPoints::coords_length))]
 fn with_points<R, F: FnOnce(&[f32]) -> R>(b: &[u8], from: u8, f: F) -> Option<R>
     requires { F.IsAlwaysCallable f }
-    ensures { MatchOption result (64 < points_at b.now 0) (λ r. (points_at b.now 0 ≤ 64) × FnOnceReturnsAt F.FnOnce f (coords_from b.now from (2 * points_at b.now 0)) r) }
+    ensures { MatchOption result (64 < points_at b.now 0)
+        (λ r. (points_at b.now 0 ≤ 64) × FnOnceReturnsAt F.FnOnce f (coords_from b.now from (2 * points_at b.now 0)) r) }
 {
     let n = u16_at(b, 2);
     if n > 64 {

@@ -70,7 +70,8 @@ fn check_head(s: &[u8]) -> Result<(), Refusal>
 #[tactic(auto, unfolding(crate::specs::Check::number_at))]
 fn check_at(s: &[u8], k: usize, depth: usize) -> Result<(), Fault>
     requires { k < 65536 }
-    ensures { MatchResult result (λ u. number_at s.now k depth ≡ 0) (λ f. f ≡ at_item f.refusal k × number_at s.now k depth ≡ code f.refusal) }
+    ensures { MatchResult result (λ u. number_at s.now k depth ≡ 0)
+        (λ f. f ≡ at_item f.refusal k × number_at s.now k depth ≡ code f.refusal) }
 {
     let at = u16_at(s, 12 + 4 * k);
     let len = u16_at(s, 14 + 4 * k);

@@ -1,11 +1,10 @@
 // The kinds of items and of paints, and the check of one item.
 ghost use Rattle.std.specs.Prelude.{◌≡◌, ◌<◌};
 ghost use Rattle.geom.specs.Refusals.{number_of};
-ghost use Rattle.sheet.specs.Kinds as Kinds;
-ghost use Rattle.sheet.specs.Kinds.{kind_code, paint_code, IsKind, IsPaint, row, layout_of, layout_at, paint_layout};
+ghost use Rattle.sheet.specs.Kinds.{kind_at, kind_code, paint_code, IsKind, IsPaint, row, layout_of, layout_at, paint_layout};
 ghost use Rattle.sheet.specs.Kinds.{length_ok, points_ok, paint_bytes_ok, skip_ok, bytes_ok, paint_floats_ok, width_ok};
 ghost use Rattle.sheet.specs.Kinds.{floats_ok, saved_ok, item_number, depth_after};
-ghost use Rattle.sheet.specs.Bytes as Bytes;
+ghost use Rattle.sheet.specs.Bytes.{byte_at};
 
 use crate::bytes::{all_floats, all_zero, byte_at, f32_at, u16_at};
 use geom::checks::{Refusal, ensure};
@@ -47,7 +46,7 @@ impl TryFrom<u8> for Kind {
 
 // The kind of the item that starts at a place.
 pub fn kind_at(s: &[u8], at: usize) -> Result<Kind, Refusal>
-    ensures { IsKind (Kinds.kind_at s.now at) result }
+    ensures { IsKind (kind_at s.now at) result }
 {
     Kind::try_from(byte_at(s, at))
 }
@@ -80,7 +79,7 @@ impl TryFrom<u8> for PaintKind {
 
 // The kind of the paint that starts at a place.
 pub fn paint_kind_at(s: &[u8], at: usize) -> Result<PaintKind, Refusal>
-    ensures { IsPaint (Bytes.byte_at s.now at) result }
+    ensures { IsPaint (byte_at s.now at) result }
 {
     PaintKind::try_from(byte_at(s, at))
 }
@@ -183,7 +182,7 @@ fn paint_layout(kind: PaintKind) -> Layout
 
 #[tactic(auto, unfolding(crate::specs::Kinds::layout_at))]
 fn layout_at(s: &[u8], at: usize, kind: Kind) -> Layout
-    requires { (at < 65536) × (kind_code kind ≡ Kinds.kind_at s.now at) }
+    requires { (at < 65536) × (kind_code kind ≡ kind_at s.now at) }
     ensures { result ≡ layout_at s.now at }
 {
     layout_of(kind, u16_at(s, at + 2) as u32)
@@ -192,7 +191,7 @@ fn layout_at(s: &[u8], at: usize, kind: Kind) -> Layout
 // Number 4 is not given to an item of a known kind: it has four bytes at least, and the length of its kind.
 #[tactic(auto, unfolding(crate::specs::Kinds::length_ok))]
 fn length_ok(s: &[u8], at: usize, kind: Kind, len: usize) -> bool
-    requires { (at < 65536) × (kind_code kind ≡ Kinds.kind_at s.now at) }
+    requires { (at < 65536) × (kind_code kind ≡ kind_at s.now at) }
     ensures { result ≡ length_ok s.now at len }
 {
     4 <= len && len == layout_at(s, at, kind).length as usize
@@ -201,7 +200,7 @@ fn length_ok(s: &[u8], at: usize, kind: Kind, len: usize) -> bool
 // Nor 13: at most 64 points, of a polygon and of a chain.
 #[tactic(auto, unfolding(crate::specs::Kinds::points_ok))]
 fn points_ok(s: &[u8], at: usize, kind: Kind) -> bool
-    requires { (at < 65536) × (kind_code kind ≡ Kinds.kind_at s.now at) }
+    requires { (at < 65536) × (kind_code kind ≡ kind_at s.now at) }
     ensures { result ≡ points_ok s.now at }
 {
     let pointed = matches!(kind, Kind::Poly | Kind::Chain);
@@ -224,7 +223,7 @@ fn paint_bytes_ok(s: &[u8], p: usize) -> bool
 
 // The flag of a shadow.
 fn skip_ok(s: &[u8], at: usize, kind: Kind) -> bool
-    requires { (at < 65536) × (kind_code kind ≡ Kinds.kind_at s.now at) }
+    requires { (at < 65536) × (kind_code kind ≡ kind_at s.now at) }
     ensures { result ≡ skip_ok s.now at }
 {
     kind != Kind::Shadow || byte_at(s, at + 1) <= 1
@@ -233,7 +232,7 @@ fn skip_ok(s: &[u8], at: usize, kind: Kind) -> bool
 // Nor 5: zero bytes, `skip_inside`, the paint's kind and what it leaves zero.
 #[tactic(auto, unfolding(crate::specs::Kinds::bytes_ok))]
 fn bytes_ok(s: &[u8], at: usize, kind: Kind) -> bool
-    requires { (at < 65536) × (kind_code kind ≡ Kinds.kind_at s.now at) }
+    requires { (at < 65536) × (kind_code kind ≡ kind_at s.now at) }
     ensures { result ≡ bytes_ok s.now at }
 {
     let f = layout_at(s, at, kind);
@@ -255,7 +254,7 @@ fn paint_floats_ok(s: &[u8], p: usize) -> bool
 
 // The width of a chain, which stands apart from its points.
 fn width_ok(s: &[u8], at: usize, kind: Kind) -> bool
-    requires { (at < 65536) × (kind_code kind ≡ Kinds.kind_at s.now at) }
+    requires { (at < 65536) × (kind_code kind ≡ kind_at s.now at) }
     ensures { result ≡ width_ok s.now at }
 {
     kind != Kind::Chain || float_ok(f32_at(s, at + 4))
@@ -264,7 +263,7 @@ fn width_ok(s: &[u8], at: usize, kind: Kind) -> bool
 // Nor 6: the floats of the item, the width of a chain, and the floats that its paint uses.
 #[tactic(auto, unfolding(crate::specs::Kinds::floats_ok))]
 fn floats_ok(s: &[u8], at: usize, kind: Kind) -> bool
-    requires { (at < 65536) × (kind_code kind ≡ Kinds.kind_at s.now at) }
+    requires { (at < 65536) × (kind_code kind ≡ kind_at s.now at) }
     ensures { result ≡ floats_ok s.now at }
 {
     let f = layout_at(s, at, kind);
