@@ -62,7 +62,8 @@ fn sheet_len<'a, T: Copy, F: Fn(T) -> &'a [u8]>(items: &[T], bytes_of: &F) -> us
     requires few { length items.now ≤ 1024 }
     requires callable { F.IsAlwaysCallable bytes_of.now }
     requires short { Short (F.post bytes_of.now) }
-    ensures { (f : T → List ℕ) → Gives (F.post bytes_of.now) f → result ≡ 12 + 4 * length items.now + length (joined (map f items.now)) }
+    ensures { (f : T → List ℕ) → Gives (F.post bytes_of.now) f
+        → result ≡ 12 + 4 * length items.now + length (joined (map f items.now)) }
 {
     let mut len = 12 + 4 * items.len();
     for x in items {

@@ -110,7 +110,7 @@ fn of_function(area: Area, case: &[u8], f: u32, i: u32) -> bool {
     }
 }
 
-// Whether case i, which begins the bytes, agrees; nothing where it is another function's. A case that is not all there agrees with
+// Whether case i, which begins the bytes, agrees; None where it is another function's. A case that is not all there agrees with
 // nothing.
 fn judged(area: Area, bytes: &[u8], f: u32, i: u32) -> Option<bool> {
     let size = 4 * width(area, bytes);
