@@ -78,5 +78,8 @@ fn check_before(canvas: Canvas, n: usize, pts: &[f32]) -> Result<(), Refusal>
 pub fn refused_points_kind(canvas: Canvas, n: usize, pts: &[f32]) -> Counted
     ensures { result ≡ record { number = points_kind_number canvas n pts.now; canvas = canvas; steps = 0 } }
 {
-    Counted::of(canvas, check_before(canvas, n, pts).and(Err(Refusal::ZeroByte)))
+    Counted::of(
+        canvas,
+        check_before(canvas, n, pts).and(Err(Refusal::ZeroByte)),
+    )
 }
