@@ -56,7 +56,7 @@ pub fn compact(sheet: &[u8], buf: &mut [u8]) -> Written
         (sheet_check sheet.now).item (compacted sheet.now) buf.old result buf.new }
 {
     if let Err(fault) = check_sheet(sheet) {
-        return refused(fault.refusal, fault.item);
+        return refused(fault.refusal.into(), fault.item);
     }
     let mut kept = [0; 1024];
     let count = keep(sheet, &mut kept);

@@ -3,7 +3,6 @@
 #![tactic(auto)]
 
 ghost use Rattle.std.specs.Prelude.{◌≡◌, ℕ, List, map, ◌++◌, ◌+◌, ◌*◌, ◌≤◌, length};
-ghost use Rattle.geom.specs.Refusals.{code};
 ghost use Rattle.encode.specs.Encode.{u16, pairs, joined, encoded, fit_number, Wrote};
 ghost use Rattle.encode.specs.Placed.{placed};
 ghost use Rattle.encode.specs.Items.{Gives, Short};
@@ -20,11 +19,11 @@ pub struct Written {
 }
 
 // A refusal: nothing is written.
-pub fn refused(refusal: Refusal, item: u32) -> Written
-    ensures { result ≡ record { number = code refusal; item = item; len = 0 } }
+pub fn refused(number: u32, item: u32) -> Written
+    ensures { result ≡ record { number = number; item = item; len = 0 } }
 {
     Written {
-        number: refusal.into(),
+        number,
         item,
         len: 0,
     }
@@ -130,7 +129,7 @@ pub fn write_sheet<'a, T: Copy, F: Fn(T) -> &'a [u8]>(
 {
     let len = sheet_len(items, &bytes_of);
     if buf.len() < len {
-        return refused(Refusal::Buffer, 0);
+        return refused(Refusal::Buffer.into(), 0);
     }
     put_header(buf, head, items.len());
     put_pairs(buf, items, &bytes_of);

@@ -1,7 +1,7 @@
 // Why a call is refused.
 
 ghost use Rattle.std.specs.Prelude.{◌≡◌, ⊤};
-ghost use Rattle.geom.specs.Refusals.{code, tested, number_of};
+ghost use Rattle.geom.specs.Refusals.{code, tested};
 
 use std::error::Error;
 use std::fmt;
@@ -74,14 +74,4 @@ pub fn ensure(ok: bool, refusal: Refusal) -> Result<(), Refusal>
     ensures { result ≡ tested ok refusal }
 {
     if ok { Ok(()) } else { Err(refusal) }
-}
-
-// The number of a check, 0 where it passed.
-pub fn number(checked: Result<(), Refusal>) -> u32
-    ensures { result ≡ number_of checked }
-{
-    match checked {
-        Ok(()) => 0,
-        Err(refusal) => refusal.into(),
-    }
 }

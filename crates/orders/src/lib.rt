@@ -68,7 +68,7 @@ pub fn clip_order(number: usize, buf: &mut [u8]) -> Written
         buf.new }
 {
     if 1093 <= number {
-        return refused(Refusal::Order, 0);
+        return refused(Refusal::Order.into(), 0);
     }
     let mut kinds = [Kind::Push; 6];
     let from = kinds_of(number, &mut kinds);

@@ -24,19 +24,22 @@ use sheet::{Fault, check_sheet, u16_at};
 
 // The reply of a refused call: its box is four zeros, and it altered nothing.
 #[tactic(auto, unfolding(geom::specs::Box::no_box, redraw::specs::Sheet::refusal))]
-pub fn refusal(fault: Fault) -> Reply
-    ensures { result ≡ refused_by (code fault.refusal) fault.item }
+pub fn refusal(number: u32, item: u32) -> Reply
+    ensures { result ≡ refused_by number item }
 {
-    let answer = Answer {
-        number: fault.refusal.into(),
-        item: fault.item,
-        area: IRect::ZERO,
-    };
+    let area = IRect::ZERO;
     Reply {
-        answer,
+        answer: Answer { number, item, area },
         steps: 0,
         grounded: 0,
     }
+}
+
+// The same by why a sheet is refused.
+pub fn refused(fault: Fault) -> Reply
+    ensures { result ≡ refused_by (code fault.refusal) fault.item }
+{
+    refusal(fault.refusal.into(), fault.item)
 }
 
 // What the item k needs.
@@ -107,5 +110,5 @@ pub fn paint(sheet: &[u8], pitch: usize, px: &mut [u32], scratch: &mut [f32]) ->
     ensures { Painted zero_word format sheet.now pitch px.old scratch.old result
         px.new scratch.new }
 {
-    try_paint(sheet, pitch, px, scratch).unwrap_or_else(refusal)
+    try_paint(sheet, pitch, px, scratch).unwrap_or_else(refused)
 }

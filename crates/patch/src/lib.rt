@@ -7,7 +7,7 @@ ghost use Rattle.paint.specs.Paint.{reply_of};
 
 use compare::{changed, same_header};
 use geom::checks::{Refusal, ensure};
-use paint::{check_lent, draw_in, refusal};
+use paint::{check_lent, draw_in, refused};
 use redraw::Reply;
 use sheet::{Fault, check_sheet};
 
@@ -35,5 +35,5 @@ pub fn patch(old: &[u8], new: &[u8], pitch: usize, px: &mut [u32], scratch: &mut
     ensures { Patched zero_word format old.now new.now pitch px.old scratch.old
         result px.new scratch.new }
 {
-    try_patch(old, new, pitch, px, scratch).unwrap_or_else(refusal)
+    try_patch(old, new, pitch, px, scratch).unwrap_or_else(refused)
 }
