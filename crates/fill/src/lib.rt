@@ -27,6 +27,7 @@ use gfx::{Canvas, Counted};
 use paints::{Edge, Paint, along_line, centre, radius, side_cover};
 
 // The pixels around the rectangle; none where it has no width or no height.
+#[tactic(auto, unfolding(crate::specs::Fill::fill_reach, geom::specs::Box::no_box))]
 pub fn fill_reach(rect: Rect) -> IRect
     ensures { result ≡ fill_reach rect }
 {
@@ -65,6 +66,7 @@ fn past(p: f32, c: f32, h: f32, r: f32) -> f32
 }
 
 // The colour of a paint at a point; a plain colour costs no call.
+#[tactic(auto, unfolding(paints::specs::Paints::paint_at))]
 fn colour_at(paint: Paint, xc: f32, yc: f32) -> Color
     ensures { result ≡ paint_at paint xc yc }
 {
@@ -83,6 +85,7 @@ struct Ends {
 
 impl Ends {
     // The ends of a row that lies beside a round corner, or of any other.
+    #[tactic(auto, unfolding(crate::specs::Rows::ends_of))]
     fn of(rect: Rect, r: f32, corner: bool) -> Ends
         ensures { result ≡ ends_of corner rect r }
     {
@@ -175,6 +178,7 @@ impl Round {
     }
 
     // The coverage of a point of a row of level l.
+    #[tactic(auto, using(paints::proofs::Covers::edge_beside), unfolding(crate::specs::Fill::cover_of, paints::specs::Paints::rrect_sd))]
     fn cover(self, l: Level, xc: f32) -> u32
         ensures { (yc : Float) → LevelOf self.rect self.edge.r yc l → result ≡ cover_of self.rect self.edge.r xc yc }
     {
@@ -184,6 +188,7 @@ impl Round {
     }
 
     // A pixel around xc and yc by coverage, from its value p: a root is taken only near the edge.
+    #[tactic(auto, using(color::proofs::Overs::over_c_none))]
     fn rim_pixel(self, l: Level, paint: Paint, xc: f32, yc: f32, p: u32) -> Inked
         requires { LevelOf self.rect self.edge.r yc l }
         ensures { result ≡ inked_of p (over_c p (paint_at paint xc yc) (cover_of self.rect self.edge.r xc yc)) }

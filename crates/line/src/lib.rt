@@ -46,6 +46,7 @@ struct Segment {
 }
 
 impl Segment {
+    #[tactic(auto, unfolding(crate::specs::Lines::segment_of))]
     fn of(a: Pt, b: Pt, width: f32) -> Segment
         ensures { result ≡ segment_of a b width }
     {
@@ -82,6 +83,7 @@ impl Edged {
     }
 
     // The coverage of a pixel by its centre.
+    #[tactic(auto, using(paints::proofs::Covers::edge_cover_lem), unfolding(crate::specs::Lines::cover_of))]
     fn cover(self, xc: f32, yc: f32) -> u32
         ensures { result ≡ cover_of self.segment xc yc }
     {
@@ -94,6 +96,7 @@ impl Edged {
     }
 
     // A pixel under a colour by its coverage, from its value p.
+    #[tactic(auto, using(color::proofs::Overs::over_c_none))]
     fn pixel(self, color: Color, xc: f32, yc: f32, p: u32) -> Inked
         ensures { result ≡ inked_of p (over_c p color (cover_of self.segment xc yc)) }
     {
@@ -136,6 +139,7 @@ fn draw_line(
     bb.draw(px, pitch, |px, row| segment_row(px, row, s, color))
 }
 
+#[tactic(auto, unfolding(crate::specs::Lines::line_ok))]
 fn line_ok(a: Pt, b: Pt, width: f32) -> bool
     ensures { result ≡ line_ok a b width }
 {

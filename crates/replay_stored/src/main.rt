@@ -2,7 +2,6 @@
 // arguments name the files of the areas, in the areas' order; a function goes by its number.
 #![tactic(auto)]
 
-ghost use Rattle.std.specs.Prelude.{◌≡◌, length};
 ghost use Rattle.io.specs.Counts.{IsPrefixLen};
 
 use input::read_full;
@@ -10,13 +9,6 @@ use leaves::{ALL, Tally, count};
 use std::fs::File;
 use std::rt::{Env, Files};
 use std::{io, str};
-
-// Zeros, as many as any stored file has bytes.
-fn buffer() -> [u8; 420000]
-    ensures { 420000 ≡ length result }
-{
-    [0; 420000]
-}
 
 // Reads a file; no bytes where it is missing, or where its name is no text.
 fn read(rt: &impl Files, name: &[u8], buf: &mut [u8]) -> usize
@@ -43,7 +35,7 @@ fn line(rt: &impl Print, name: &[u8], f: u32, t: Tally) -> io::Result<()> {
     print(rt, t)
 }
 
-// How many functions an area has.
+// How many functions an area has, by its number, as its file stands among the arguments and as `count` takes it.
 fn functions(area: u32) -> u32 {
     match area {
         0 | 1 => 14,
@@ -93,6 +85,7 @@ fn replay_all(rt: &(impl Env + Files + Print), buf: &mut [u8]) -> io::Result<()>
 }
 
 fn main(rt: HostRuntime) -> io::Result<()> {
-    let mut buf = buffer();
+    // As many bytes as any stored file has.
+    let mut buf = [0; 420000];
     replay_all(&rt, &mut buf)
 }

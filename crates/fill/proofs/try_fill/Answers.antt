@@ -1,12 +1,10 @@
 -- `fill::try_fill` meets its contract. Assumes nothing.
-use mathlib.Core.Path.{◌≡◌, sym, ◌∙◌}
-use Rattle.draw.specs.Areas.{clip_to}
+use mathlib.Core.Path.{sym}
 use Rattle.draw.proofs.Clips.{drawn_clip}
 use Rattle.draw.proofs.Loops.{drew_as}
 use Rattle.gfx.proofs.Answers.{stopped_shape, done_shape}
 use Rattle.gfx.proofs.Sizes.{shape_open}
 use Rattle.gfx.proofs.Fits.{canvas_fits}
-use Rattle.fill.specs.Fill.{fill_reach}
 use Rattle.fill.proofs.try_fill.Goals as goal
 
 pub returns-in_err-check_shape : goal.returns-in_err-check_shape

@@ -1,5 +1,5 @@
 -- `fill::try_ground` meets its contract. Assumes nothing.
-use mathlib.Core.Path.{sym, ◌∙◌}
+use mathlib.Core.Path.{sym}
 use Rattle.draw.proofs.Clips.{drawn_clip}
 use Rattle.draw.proofs.Loops.{drew_as}
 use Rattle.gfx.proofs.Answers.{stopped_shape, done_shape}
