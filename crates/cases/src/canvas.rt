@@ -38,20 +38,15 @@ pub fn state(words: &[u8]) -> Canvas {
     framed(words, saved(from(words, 8)), depth)
 }
 
-pub fn same_state(a: Canvas, b: Canvas) -> bool {
-    let sides = a.w == b.w && a.h == b.h && a.pitch == b.pitch;
-    sides && a.depth == b.depth && a.clip == b.clip && a.saved == b.saved
-}
-
 // Whether a call that returns a state answered as stored: the number, four zeros, and, past what is left in px, the state.
 fn same_done(d: Done, case: &[u8]) -> bool {
     let none = irect(from(case, 81)) == IRect::ZERO;
-    d.number == word(case, 80) && none && same_state(d.canvas, state(from(case, 88)))
+    d.number == word(case, 80) && none && d.canvas == state(from(case, 88))
 }
 
 // Whether the stored state is the given one.
 fn kept(case: &[u8]) -> bool {
-    same_state(state(from(case, 8)), state(from(case, 88)))
+    state(from(case, 8)) == state(from(case, 88))
 }
 
 fn same_boxed(b: Boxed, case: &[u8]) -> bool {

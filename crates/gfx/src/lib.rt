@@ -29,7 +29,7 @@ use geom::{IRect, Rect, nat_of};
 // A canvas without its pixels: its sides, the words of a row of px, its clip, and up to 16 saved clips, of which `depth` are in
 // use. The pixel in column x and row y is the word y × pitch + x; words of a row past w are no pixels, and no call alters them.
 #[repr(C)]
-#[derive(Clone, Copy)]
+#[derive(Clone, Copy, PartialEq, Eq)]
 pub struct Canvas {
     pub w: i32,
     pub h: i32,

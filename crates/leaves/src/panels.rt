@@ -27,8 +27,9 @@ fn written(case: &[u8]) -> u8 {
 // Whether a step answered as stored: number, pixel, every byte of the registers, and the held box.
 fn same(number: u32, value: u32, left: Panel, case: &[u8]) -> bool {
     let told = number == word(case, 87) && value == word(case, 88);
-    let bytes = left.regs == registers(from(case, 89));
-    told && bytes && left.held == irect(from(case, 91))
+    let regs = registers(from(case, 89));
+    let held = irect(from(case, 91));
+    told && left == Panel { regs, held }
 }
 
 fn commanded(case: &[u8], px: &[u32]) -> bool {

@@ -5,7 +5,7 @@ use cases::irect;
 use cases::word::{from, upto, word};
 use paint::paint;
 use patch::patch;
-use redraw::Reply;
+use redraw::{Answer, Reply};
 
 // The old sheet of a patch.
 fn old_sheet(case: &[u8]) -> &[u8] {
@@ -25,10 +25,16 @@ fn new_sheet(case: &[u8]) -> &[u8] {
 
 // Whether a reply is as stored: number, item, box, and both counts.
 fn same_reply(r: Reply, words: &[u8]) -> bool {
-    let a = r.answer;
-    let numbers = a.number == word(words, 0) && a.item == word(words, 1);
-    let counts = r.steps == word(words, 6) as u64 && r.grounded == word(words, 7) as u64;
-    numbers && a.area == irect(from(words, 2)) && counts
+    let answer = Answer {
+        number: word(words, 0),
+        item: word(words, 1),
+        area: irect(from(words, 2)),
+    };
+    r == Reply {
+        answer,
+        steps: word(words, 6) as u64,
+        grounded: word(words, 7) as u64,
+    }
 }
 
 fn painted(case: &[u8], px: &mut [u32], scratch: &mut [f32]) -> bool {

@@ -17,7 +17,7 @@ use sheet::u16_at;
 // Eight bytes: 0 command, 1 flags, 2-3 column, 4-5 row, 6-7 pixels left in this row, the lower byte first; and the box last
 // loaded.
 #[repr(C)]
-#[derive(Clone, Copy)]
+#[derive(Clone, Copy, PartialEq, Eq)]
 pub struct Panel {
     pub regs: [u8; 8],
     pub held: IRect,

@@ -6,7 +6,7 @@ use geom::IRect;
 
 // What a sheet call returns: number, item and box.
 #[repr(C)]
-#[derive(Clone, Copy)]
+#[derive(Clone, Copy, PartialEq, Eq)]
 pub struct Answer {
     pub number: u32,
     pub item: u32,
@@ -15,7 +15,7 @@ pub struct Answer {
 
 // The same, with the count of shape steps that altered a pixel's value, and of pixels whose value the ground altered.
 #[repr(C)]
-#[derive(Clone, Copy)]
+#[derive(Clone, Copy, PartialEq, Eq)]
 pub struct Reply {
     pub answer: Answer,
     pub steps: u64,
