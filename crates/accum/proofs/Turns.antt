@@ -9,14 +9,6 @@ use Rattle.accum.specs.Lines.{edge_x, edge_row, edge_rows, row_next}
 use Rattle.accum.specs.Rooms.{Room}
 use Rattle.accum.specs.declared.edge.Edge.{Edge}
 
--- row y of a box lies within n words, where the box does
-pub row_words : {bw bh n : ℕ} (y : ℕ) → Room bw bh n → y < bh → y * (bw + 2) + (bw + 2) ≤ n
-row_words {bw} {bh} {n} y r l =
-    let m : suc y * (bw + 2) ≤ bh * (bw + 2) = mul-le-mul_right (bw + 2) l in
-    let s : suc y * (bw + 2) ≡ y * (bw + 2) + (bw + 2) = suc-mul y (bw + 2) in
-    let t : (bw + 2) * bh ≡ bh * (bw + 2) = mul_comm (bw + 2) bh in
-    omega (arith, r.words)
-
 module _ (e : Edge) (from y : ℕ) (l : from ≤ y) where
   pub edge_x_more : edge_x e from (y + 1 - from) ≡ row_next e y (edge_x e from (y - from))
   unfolding edge_x

@@ -29,7 +29,7 @@ pub struct PolyBox {
 }
 
 // What is painted: its box, and the scratch words that it needs. All zeros where nothing is painted, as `plan_of` (specs/Plans)
-// has it: an Option would be no plainer, since its callers read both off, and answer those zeros.
+// has it: an Option would be no plainer, since each caller reads one of both off, and answers its zeros.
 #[derive(Clone, Copy)]
 pub struct Plan {
     pub g: PolyBox,

@@ -55,6 +55,6 @@ fn mix_green(a: u32, b: u32, t: u32) -> u32
 pub fn mix_pix(a: u32, b: u32, t256: u32) -> u32
     ensures { result ≡ mix_pix_of a b t256 }
 {
-    let t = if t256 < 256 { t256 } else { 256 };
+    let t = t256.min(256);
     mix_red_blue(a, b, t) + mix_green(a, b, t)
 }

@@ -1,4 +1,5 @@
-// The remainder of an angle by a whole turn of 360, in whole numbers: what `%` of two floats gives, without a call of the C library.
+// The remainder of an angle by a whole turn of 360, in whole numbers: what `%` of two floats gives, without a call of the C
+// library.
 ghost use Rattle.std.specs.Prelude.{◌≡◌, ◌*◌, ◌%◌, ◌^◌, ◌<◌, false};
 ghost use Rattle.std.specs.Float.Ieee as Ieee;
 ghost use Rattle.mathf.specs.F32.{◌%ᶠ◌, f0, f360};

@@ -88,7 +88,7 @@ fn settled(count: u16, area: IRect) -> Result<IRect, Refusal>
     ensures { told_by result ≡ settled count (Box.join area no_box) }
 {
     ensure(count <= 32, Refusal::Many)?;
-    Ok(join(area, IRect::new(0, 0, 0, 0)))
+    Ok(join(area, IRect::ZERO))
 }
 
 // What two sheets of n items each tell. A push or a pop that differs is refused by 10, wherever it stands; so the loop goes on
@@ -100,7 +100,7 @@ fn changed_in(old: &[u8], new: &[u8], n: u16) -> Result<IRect, Refusal>
 {
     let canvas = canvas_of(new);
     let mut state = start_state(new);
-    let mut area = IRect::new(0, 0, 0, 0);
+    let mut area = IRect::ZERO;
     let mut count = 0;
     for k in 0..n {
         if !same_at(old, new, k) {

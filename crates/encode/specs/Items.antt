@@ -1,5 +1,5 @@
--- The bytes that a function gives for an item, by what a call of it may return. Only the functions that write a sheet from its items cite
--- this. Assumes nothing.
+-- The bytes that a function gives for an item, by what a call of it may return. Only the functions that write a sheet from its
+-- items cite this. Assumes nothing.
 use Rattle.std.specs.Prelude.{ℕ, ◌≡◌, ◌≤◌, List, length}
 use Rattle.std.specs.Borrow.{Bor}
 

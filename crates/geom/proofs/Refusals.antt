@@ -41,14 +41,6 @@ pub passed : (t : Bool) (n rest : ℕ) → unless t (suc n) rest ≡ 0 → (t �
 passed true n rest e = (refl, e)
 passed false n rest e = absurd (never e)
 
--- m is the number n of the tests before: it is that of the whole call where it is not 0
-pub then_refused : {m n : ℕ} (rest : ℕ) → m ≡ n → (m ≡ 0 → ⊥) → m ≡ and_then n rest
-then_refused {m} rest e k = rw (← e, ne_eqb m 0 k)
-
--- .. and else the tests after them decide
-pub then_passed : {n : ℕ} (rest : ℕ) → n ≡ 0 → rest ≡ and_then n rest
-then_passed {n} rest e = rw (eq-eqb n 0 e)
-
 -- both are 0 where the whole is
 pub then_open : (n rest : ℕ) → and_then n rest ≡ 0 → (n ≡ 0) × (rest ≡ 0)
 then_open n rest e = go (eqb n 0) refl e

@@ -19,7 +19,6 @@ use Rattle.geom.proofs.Int.{max_is, min_is}
 abbrev pub Kept : ℤ → Type 0
 Kept z = to_z w32 (of_z w32 z) ≡ z
 
--- the bound is `c.fits.x.sfits` of a parameter, `c.f.ok` of a call's result, `c.struct_told.given.0.1` of a struct's first field
 pub kept : (z : ℤ) → mag z < 2147483648 → Kept z
 kept z h = to_z-of_z w32 z (record { sfits = h })
 

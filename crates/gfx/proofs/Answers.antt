@@ -1,5 +1,5 @@
--- What a call returns that tests its number and returns early: for its contract, by whether the number is 0. m is the number as the code has
--- it, n its definition. Assumes nothing.
+-- What a call returns, for its contract: by the Result that its answer is made of, or by a number that is tested; n is the number's definition.
+-- Assumes nothing.
 use mathlib.Core.Path.{◌≡◌, refl, sym, ap, ◌∙◌}
 use mathlib.Core.Bool.{cond}
 use mathlib.Core.List.{List}
@@ -81,13 +81,6 @@ module _ {n : ℕ} (z : 0 ≡ n) where
       → ShapeCalled n c px drawn (counted_of c (Ok k)) px'
   done_shape {px = px} d = done_counted d.paints (d.counts ∙ ap (differ px) d.paints)
 
--- a shape whose reach is cut to the clip: b is the area that is drawn, j its steps as they are counted, k as they are told
-pub drawn_shape : (reach : IRect) (ink : ℕ → ℕ → ℕ → ℕ) {n : ℕ} {c : Canvas} {b : Area} {px px' : List ℕ} {most j k : ℕ} → 0 ≡ n → k ≡ j
-    → b ≡ clip_to reach c.clip → Drew most px (drawn_in c.pitch b ink px) j px'
-    → ShapeCalled n c px (drawn c.pitch c.clip reach ink px) (counted_of c (Ok k)) px'
-drawn_shape reach ink {c = c} {px = px} z e q d =
-    rw e (done_shape z (drew_as d (rw q (sym (drawn_clip c.pitch c.clip reach ink px)))))
-
 -- a box that is given where the tests pass
 pub told_box : {n : ℕ} (b : IRect) (t : Result ⊤ Refusal) → number_of t ≡ n → boxed_of (result_and t (Ok b)) ≡ box_answer n b
 unfolding box_answer
@@ -114,25 +107,3 @@ module _ {n m : ℕ} (e : m ≡ n) where
     pub refused_shape : {c : Canvas} {px drawn : List ℕ} {count : ℕ}
         → CalledCounted n c px drawn count (record { number = m; canvas = c; steps = 0 }) px
     refused_shape {c} {px} {drawn} {count} = record { called = refused_call; counts = stays count 0 }
-
-  module _ (z : m ≡ 0) where
-    -- what is next follows
-    follows : {A : Type 0} (next given : A) → next ≡ cond (eqb n 0) next given
-    follows next given = rw (← e, eq-eqb m 0 z)
-
-    pub accepted_state : (given next : Canvas) → ◌≡◌ {A = Done} (record { number = m; canvas = next }) (answer n given next)
-    unfolding answer
-    accepted_state given next = done_is e (follows next given)
-
-    pub accepted_call : {given next : Canvas} {px drawn : List ℕ} → Called n given next px drawn (record { number = m; canvas = next }) drawn
-    unfolding left
-    accepted_call {given} {next} {px} {drawn} = record { answers = accepted_state given next; paints = follows drawn px }
-
-    -- by what is drawn and what is counted; and of a shape that takes one step at each pixel
-    pub accepted_counted : {c : Canvas} {px drawn px' : List ℕ} {count k : ℕ} → px' ≡ drawn → k ≡ count
-        → CalledCounted n c px drawn count (record { number = m; canvas = c; steps = k }) px'
-    accepted_counted {c} {px} {drawn} {px'} {count} {k} p q = record { called = rw p accepted_call; counts = q ∙ follows count 0 }
-
-    pub accepted_shape : {c : Canvas} {px drawn px' : List ℕ} {most k : ℕ} → Drew most px drawn k px'
-        → ShapeCalled n c px drawn (record { number = m; canvas = c; steps = k }) px'
-    accepted_shape {c} {px} {drawn} {px'} {most} {k} d = accepted_counted d.paints (d.counts ∙ ap (differ px) d.paints)

@@ -43,11 +43,6 @@ canvas_fits c n reach o =
 
 -- the same after the tests of px, and after those of a shape call: b is the area that is drawn
 module _ (c : Canvas) (reach : IRect) {n : ℕ} {b : Area} where
-  pub fits_px : 0 ≡ px_number c n → b ≡ clip_to reach c.clip → AreaFits c.pitch b n
-  fits_px z q = rw q (canvas_fits c n reach (open_of c n (sym z)))
-
-  pub fits_shape : (ok : Bool) → 0 ≡ shape_number c n ok → b ≡ clip_to reach c.clip → AreaFits c.pitch b n
-  fits_shape ok z q = rw q (canvas_fits c n reach (shape_open c n ok (sym z)))
 
 -- the pixels of a canvas of w columns and h rows that is not refused, and all of px
 pub rows_fit : (w h : ℤ) (pitch n : ℕ) → side_ok w ≡ true → side_ok h ≡ true → Frame (up w) (up h) pitch n

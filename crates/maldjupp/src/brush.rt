@@ -73,7 +73,7 @@ fn check_before(canvas: Canvas, n: usize, pts: &[f32]) -> Result<(), Refusal>
     ensure(points_ok(pts), Refusal::Points)
 }
 
-// The same of a call with points, whose brush has a kind over 3.
+// The answer of a call with points, whose brush has a kind over 3: 5 after all these.
 #[tactic(auto, unfolding(crate::specs::Brushes::points_kind_number))]
 pub fn refused_points_kind(canvas: Canvas, n: usize, pts: &[f32]) -> Counted
     ensures { result ≡ record { number = points_kind_number canvas n pts.now; canvas = canvas; steps = 0 } }

@@ -1,5 +1,5 @@
-// The calls of the static library for C and Rust: sheet calls, clip orders, the blend of one pixel, canvas calls, and the panel's registers. A
-// slice passes as a pointer and a length, a struct by value.
+// The calls of the static library for C and Rust: sheet calls, clip orders, the blend of one pixel, canvas calls, and the panel's
+// registers. A slice passes as a pointer and a length, a struct by value.
 #![tactic(auto)]
 
 pub mod brush;

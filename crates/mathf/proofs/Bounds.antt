@@ -212,9 +212,3 @@ min_sized n a b p q = pick (Sized n) (lt b a) b (cond (ne a a) b a) q (pick (Siz
 
 pub max_sized : (n : ℕ) (a b : Float) → Sized n a → Sized n b → Sized n (max_of a b)
 max_sized n a b p q = pick (Sized n) (lt a b) b (cond (ne a a) b a) q (pick (Sized n) (ne a a) b a q p)
-
--- an integer up to 2 ^ 24 either way is an f32: what `z as f32` asks
-pub in_float_signed : (z : ℤ) → nat_abs z ≤ 2 ^ 24 → T (in_float binary32 z)
-unfolding in_float
-in_float_signed (pos k) h = le→leb k (2 ^ 24) h
-in_float_signed (negsuc k) h = lt→ltb k (2 ^ 24) h

@@ -1,5 +1,5 @@
--- What painting and patching share: the need of a sheet, and drawing in an area. No call of the library cites this file:
--- `sheet_need` and `draw_in`, which both call, do. Assumes nothing.
+-- What painting and patching share: the need of a sheet, drawing in an area, and the reply of a result. No call of the library
+-- cites this file: what both call does. Assumes nothing.
 use Rattle.std.specs.Prelude.{ℕ, List, ◌≡◌, Float, pos, length, Ok, Err}
 use Rattle.std.specs.declared.result.Result.{Result}
 use Rattle.geom.specs.Refusals.{code}

@@ -79,16 +79,10 @@ impl Taken {
 fn regs_of(f: u8, x: usize, y: usize, l: usize) -> [u8; 8]
     ensures { result ≡ regs_of f x y l }
 {
-    [
-        0,
-        f,
-        (x % 256) as u8,
-        (x / 256 % 256) as u8,
-        (y % 256) as u8,
-        (y / 256 % 256) as u8,
-        (l % 256) as u8,
-        (l / 256 % 256) as u8,
-    ]
+    let [x0, x1, ..] = x.to_le_bytes();
+    let [y0, y1, ..] = y.to_le_bytes();
+    let [l0, l1, ..] = l.to_le_bytes();
+    [0, f, x0, x1, y0, y1, l0, l1]
 }
 
 // Whether column x and row y are inside a box, and l pixels the rest of its row.

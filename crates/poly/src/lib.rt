@@ -39,7 +39,7 @@ pub fn poly_reach(pts: &[f32]) -> IRect
     ensures { result ≡ reach_in pts.now }
 {
     if !poly_ok(pts) {
-        return IRect::new(0, 0, 0, 0);
+        return IRect::ZERO;
     }
     reach_of(plan_of(pts).g)
 }

@@ -77,7 +77,7 @@ items_from s (suc left) k depth =
 unfoldable pub sheet_check : List ℕ → Verdict
 sheet_check s = cond (eqb (head_number s) 0) (items_from s (count_of s) 0 0) (verdict (head_number s) 0)
 
--- a refusal of what stands before the items, and of the item k, counted from 0
+-- a refusal at no item, and at the item k, counted from 0
 abbrev pub at_header : Refusal → Fault
 at_header refusal = record { refusal = refusal; item = 0 }
 

@@ -15,7 +15,7 @@ pub struct Fault {
     pub item: u32,
 }
 
-// A refusal of what stands before the items.
+// A refusal at no item: of what stands before the items, or of more than the sheet.
 impl From<Refusal> for Fault {
     ghost from_gives = { λ refusal fault. fault ≡ at_header refusal };
 

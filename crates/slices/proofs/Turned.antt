@@ -48,9 +48,6 @@ module _ {ℓ ℓ'} {A : Type ℓ} {B : Type ℓ'} (f : A → B) where
   pub turned_each : {i : ℕ} {now : List B} (xs : List A) (old : List B) → now ≡ turned i xs old → i ≡ length xs → length xs ≡ length old → now ≡ each f xs old
   turned_each {i} xs old e h l = rw (eq-eqb (length xs) (length old) l) (turned_all xs old e h l)
 
-  pub each_none : (xs : List A) (old : List B) → (length xs ≡ length old → ⊥) → old ≡ each f xs old
-  each_none xs old h = rw (ne_eqb (length xs) (length old) h)
-
 -- the same in place, where the element at i is still the old one
 pub turned_in_place {ℓ} : {A : Type ℓ} (f : A → A) {i : ℕ} {now : List A} {v : A} (xs : List A) (d : A) → now ≡ turned f i xs xs → i < length xs → v ≡ f (get_or now i d)
     → set now i v ≡ turned f (i + 1) xs xs

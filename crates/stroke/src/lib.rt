@@ -27,11 +27,11 @@ pub fn stroke_reach(rect: Rect, c: Color) -> IRect
     ensures { result ≡ stroke_reach rect c }
 {
     if rect.is_empty() {
-        return IRect::new(0, 0, 0, 0);
+        return IRect::ZERO;
     }
     let a = c.a;
     if a == 0 {
-        return IRect::new(0, 0, 0, 0);
+        return IRect::ZERO;
     }
     IRect::from_rect_outer(rect)
 }
