@@ -1,12 +1,10 @@
 -- One more turn of the loop over the rows of an edge; and that each row of the box lies within the accumulator. Assumes nothing.
 use mathlib.Core.Path.{◌≡◌}
 use mathlib.Core.List.{List}
-use Prim.Native.Nat.{ℕ, suc, ◌+◌, ◌-◌, ◌*◌, ◌<◌, ◌≤◌}
-use native.Mathlib.Nat.{mul-le-mul_right, mul_comm, suc-mul}
+use Prim.Native.Nat.{ℕ, suc, ◌+◌, ◌-◌, ◌≤◌}
 use native.Mathlib.Omega.{arith}
 use lib.Ieee.{Float}
 use Rattle.accum.specs.Lines.{edge_x, edge_row, edge_rows, row_next}
-use Rattle.accum.specs.Rooms.{Room}
 use Rattle.accum.specs.declared.edge.Edge.{Edge}
 
 module _ (e : Edge) (from y : ℕ) (l : from ≤ y) where

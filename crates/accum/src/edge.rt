@@ -58,7 +58,7 @@ fn edge_row(a: &mut [f32], bw: usize, e: Edge, y: usize, x: f32) -> f32
     xnext
 }
 
-// The rows from `from` up to `to` of the edge.
+// The rows from `from` up to `to` of the edge, by their numbers, on which a row's height hangs.
 fn edge_rows(a: &mut [f32], bw: usize, bh: usize, e: Edge, from: usize, to: usize)
     requires { Room bw bh (length a.old) × (to ≤ bh) }
     ensures { a.new ≡ edge_rows a.old bw e from (to - from) }

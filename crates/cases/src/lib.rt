@@ -1,6 +1,7 @@
 // Stored answers of the oracle for the leaf functions and the canvas calls: reading a case, and whether the proved functions
 // answer as it says. A file holds words of 32 bits. The first is the number of cases; each case then has its function's number,
-// from 1, its inputs and the Rust's answer, in as many words as its area's cases have.
+// from 1, its inputs and the Rust's answer, in as many words as its area's cases have. A function goes by its number in the code
+// too: one match says which it is, and a name would be read nowhere else.
 #![tactic(auto)]
 
 mod answer;

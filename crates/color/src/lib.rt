@@ -27,7 +27,7 @@ pub struct Color {
     pub a: u8,
 }
 
-// A pixel that a call returns, beside its number.
+// A pixel that a call returns, beside its number: C is given it, and no Result.
 #[repr(C)]
 #[derive(Clone, Copy)]
 pub struct Pixel {
@@ -42,7 +42,7 @@ pub struct Inked {
     pub altered: bool,
 }
 
-// The same, beside the number of a call.
+// The same, beside the number of a call, as C is given it.
 #[repr(C)]
 #[derive(Clone, Copy)]
 pub struct BlendAnswer {

@@ -30,7 +30,8 @@ impl Area {
     };
 }
 
-// The columns from x0 up to x1 of row y, in rows of `pitch` words.
+// The columns from x0 up to x1 of row y, in rows of `pitch` words. That they lie in px is asked where px is lent beside it
+// (`SpanFits`), and no fact of the struct's: with px in it each part of a row would borrow the whole anew.
 #[derive(Clone, Copy)]
 pub struct Span {
     pub pitch: usize,
@@ -84,7 +85,7 @@ pub fn check_frame(w: usize, h: usize, pitch: usize, n: usize) -> Result<(), Ref
     ensure(n == pitch * h, Refusal::Pixels)
 }
 
-// Numbers of which the places from x0 up to x1 are filled by a function.
+// Numbers of which the places from x0 up to x1 are filled by a function, which is told of the place.
 pub fn filled<const N: usize, F: Fn(usize) -> u32>(x0: usize, x1: usize, f: F) -> [u32; N]
     requires places { (x0 ≤ x1) × (x1 ≤ N) }
     requires callable { (x : ℕ) → x0 ≤ x → x < x1 → F.pre f x }
@@ -98,7 +99,8 @@ pub fn filled<const N: usize, F: Fn(usize) -> u32>(x0: usize, x1: usize, f: F) -
 }
 
 impl Span {
-    // Stores at each pixel what an ink makes of its column and its old value, and counts the values that it alters.
+    // Stores at each pixel what an ink makes of its column and its old value, and counts the values that it alters. The loop goes
+    // through the columns' numbers, as the ink is told of them.
     pub fn draw<F: Fn(usize, u32) -> Inked>(self, px: &mut [u32], ink: F) -> u32
         requires span_fits { SpanFits self (length px.old) }
         requires callable { TakesPixels (F.pre ink) self }

@@ -9,7 +9,8 @@ ghost use Rattle.encode.specs.Items.{Gives, Short};
 
 use geom::checks::Refusal;
 
-// What a call that writes a sheet returns: its number, the item beside it, and how many bytes it wrote.
+// What a call that writes a sheet returns: its number, the item beside it, and how many bytes it wrote. C is given it, and no
+// Result.
 #[repr(C)]
 #[derive(Clone, Copy)]
 pub struct Written {

@@ -39,7 +39,8 @@ pub struct Canvas {
     pub depth: usize,
 }
 
-// What a call on a canvas returns: its number, 0 where it is accepted, and the state.
+// What a call on a canvas returns: its number, 0 where it is accepted, and the state. C is given it, and no Result, as it is the
+// two that follow.
 #[repr(C)]
 #[derive(Clone, Copy)]
 pub struct Done {
@@ -136,7 +137,7 @@ fn store_row(px: &mut [u32], pitch: usize, y: usize, w: usize, v: u32)
     px[row..row + w].fill(v);
 }
 
-// The first w words of each of h rows set to one value.
+// The first w words of each of h rows set to one value. Rows go by their numbers, as in `framed`.
 fn store_rows(px: &mut [u32], pitch: usize, w: usize, h: usize, v: u32)
     requires { AreaFits pitch (area 0 0 w h) (length px.old) × (length px.old ≡ pitch * h) }
     ensures { px.new ≡ framed pitch w v px.old }

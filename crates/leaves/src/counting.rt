@@ -128,7 +128,7 @@ fn judged(area: Area, bytes: &[u8], f: u32, i: u32) -> Option<bool> {
 }
 
 // The cases of function f, and those of them whose answer is another than the stored one. Of an area that there is none of, every
-// case differs.
+// case differs. Cases are as long as each says, so they are counted.
 pub fn count(bytes: &[u8], area: u32, f: u32) -> Tally {
     let n = word(bytes, 0) % 65536;
     let Ok(area) = Area::try_from(area) else {

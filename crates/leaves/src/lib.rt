@@ -1,6 +1,6 @@
 // The proved functions as the oracle calls them, for the comparison at scale and for speed: the leaf functions over whole slices,
 // stored cases, shapes. Whether the calls on pixels answer and leave what a stored case says, and counting the cases of every
-// area.
+// area. A call goes by its number, as in the files (cases).
 #![tactic(auto)]
 
 mod clip_orders;

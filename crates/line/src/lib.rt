@@ -185,7 +185,7 @@ fn point(pts: &[f32], i: usize) -> Pt
 }
 
 // The smallest box around the reaches of the lines between successive points, from the last line to the first; four zeros where
-// no line reaches a pixel.
+// no line reaches a pixel. A line reads two points, so the loop counts them.
 pub fn polyline_reach(pts: &[f32], width: f32) -> IRect
     ensures { (c : Color) → result ≡ reach_all (chain_of pts.now width c) }
 {
@@ -197,7 +197,7 @@ pub fn polyline_reach(pts: &[f32], width: f32) -> IRect
     area
 }
 
-// The lines between successive points, under a clip within px.
+// The lines between successive points, under a clip within px; the loop counts points, as above.
 fn draw_lines(
     px: &mut [u32],
     pitch: usize,

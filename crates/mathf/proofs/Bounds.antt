@@ -1,6 +1,6 @@
 -- What a caller learns of the whole numbers next to a float in a known range: an index that is in bounds. A NaN gives 0.
 -- `hi` is any float that is the whole number n: `n as f32`, or a literal. Assumes nothing.
-use Rattle.std.proofs.Common.{◌≡◌, ℕ, zero, suc, ◌+◌, ◌-◌, ◌*◌, ◌/◌, ◌^◌, ◌<◌, ◌≤◌, min, Bool, true, false, cond, not, ◌||◌, T, ℤ, pos, negsuc, neg_ℤ, nat_abs, sym, refl, ap, ◌∙◌, subst, true≢false, zero-le, le_trans, le_of_eq, le_of_suc-le-suc, lt_of_le_of_lt, lt-suc_self, suc-mul, div-lt_iff_lt-mul, lt_of_not-le, mul-one, arith, lit<, lit≤, le→leb, lt→ltb, T_not, pow_pos, w32, to_z, of_z}
+use Rattle.std.proofs.Common.{◌≡◌, ℕ, zero, suc, ◌+◌, ◌-◌, ◌*◌, ◌/◌, ◌^◌, ◌<◌, ◌≤◌, min, Bool, true, false, cond, not, ◌||◌, T, ℤ, pos, neg_ℤ, nat_abs, sym, refl, ap, ◌∙◌, subst, true≢false, zero-le, le_trans, le_of_eq, le_of_suc-le-suc, lt_of_le_of_lt, lt-suc_self, suc-mul, div-lt_iff_lt-mul, lt_of_not-le, mul-one, arith, lit<, lit≤, le→leb, lt→ltb, T_not, pow_pos, w32, to_z, of_z}
 use lib.Arith.{le→nltb}
 use lib.Signed.{mag, non_neg}
 use mir.ValLaws.{to_z-of_z}

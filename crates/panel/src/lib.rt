@@ -23,7 +23,7 @@ pub struct Panel {
     pub held: IRect,
 }
 
-// What a write returns.
+// What a write returns. C is given it, and no Result, as it is the next.
 #[repr(C)]
 #[derive(Clone, Copy)]
 pub struct Stepped {

@@ -4,7 +4,7 @@
 
 use geom::IRect;
 
-// What a sheet call returns: number, item and box.
+// What a sheet call returns: number, item and box. C is given it, and no Result, as it is the two that follow.
 #[repr(C)]
 #[derive(Clone, Copy, PartialEq, Eq)]
 pub struct Answer {

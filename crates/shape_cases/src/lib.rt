@@ -29,7 +29,7 @@ fn place(case: &[u8]) -> Rect {
 }
 
 // What a shape call tells: its number, or 99 where it does not leave the state as it was, and its steps that altered a pixel's
-// value.
+// value. C is given it, and no Result.
 #[repr(C)]
 #[derive(Clone, Copy)]
 pub struct Told {

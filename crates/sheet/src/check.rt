@@ -41,7 +41,7 @@ fn header_ok(s: &[u8]) -> bool
         && all_zero(s, 10, 2)
 }
 
-// Whether each item starts where the last ends, and the last ends the sheet.
+// Whether each item starts where the last ends, and the last ends the sheet; the loop carries where that is.
 fn pairs_ok(s: &[u8]) -> bool
     ensures { result ≡ pairs_ok s.now }
 {
@@ -88,7 +88,7 @@ fn depth_at(s: &[u8], k: usize, depth: usize) -> usize
     kind_at(s, u16_at(s, 12 + 4 * k)).map_or(depth, |kind| depth_after(kind, depth))
 }
 
-// The items, up to the first that is refused.
+// The items, up to the first that is refused; the loop carries how many clips are saved.
 fn check_items(s: &[u8]) -> Result<(), Fault>
     ensures { verdict_of result ≡ items_from s.now (count_of s.now) 0 0 }
 {

@@ -1,6 +1,6 @@
 -- A slice as a loop leaves it after its first elements: the answers so far, then what stood there. Assumes nothing.
 use Rattle.std.proofs.Common.{◌≡◌, refl, ap, ◌∙◌, List, [], ◌∷◌, map, ℕ, zero, suc, ◌+◌, ◌<◌, add-one, not-suc-le-zero, arith, length, get_or, set}
-use borrow.Author.Tests.{eq-eqb, ne_eqb}
+use borrow.Author.Tests.{eq-eqb}
 use Rattle.slices.specs.Each.{each}
 
 module _ {ℓ ℓ'} {A : Type ℓ} {B : Type ℓ'} (f : A → B) where
