@@ -41,9 +41,6 @@ canvas_fits c n reach o =
     clip_fits c.pitch (up c.w) (up c.h) n reach c.clip k o.frame.rows.room w.high h.high
     (le_of_eq (sym (o.frame.long ∙ mul_comm c.pitch (up c.h))))
 
--- the same after the tests of px, and after those of a shape call: b is the area that is drawn
-module _ (c : Canvas) (reach : IRect) {n : ℕ} {b : Area} where
-
 -- the pixels of a canvas of w columns and h rows that is not refused, and all of px
 pub rows_fit : (w h : ℤ) (pitch n : ℕ) → side_ok w ≡ true → side_ok h ≡ true → Frame (up w) (up h) pitch n
     → AreaFits pitch (area 0 0 (up w) (up h)) n × (n ≡ pitch * up h)
