@@ -2,7 +2,7 @@
 // reads by `item_bytes`.
 #![tactic(auto)]
 
-ghost use Rattle.std.specs.Prelude.{◌≡◌, ◌-◌};
+ghost use Rattle.std.specs.Prelude.{◌≡◌, ◌-◌, ◌<◌};
 ghost use Rattle.std.specs.Iterator.{at_most};
 ghost use Rattle.sheet.specs.Check.{bytes_at, count_of};
 ghost use Rattle.items.specs.Reader.{NextGives};
@@ -21,7 +21,8 @@ pub struct Items<'a> {
 impl<'a> Items<'a> {
     // The items of a sheet, from its first one on.
     pub fn of(sheet: &'a [u8]) -> Self
-        ensures { (result.sheet ≡ sheet.entry) × (result.next ≡ 0) × (result.count ≡ count_of sheet.now) }
+        ensures { (result.sheet ≡ sheet.entry) × (result.next ≡ 0) × (result.count ≡ count_of sheet.now)
+            × (count_of sheet.now < 65536) }
     {
         let count = u16_at(sheet, 8) as u16;
         Items {

@@ -12,7 +12,7 @@ pub loop-b-preserved : goal.loop-b-preserved
 loop-b-preserved c =
     let l = c.loop-b in
     let s = c.args.s.now in
-    let t = turn s c.in-Some.b l.b-iterator c.next.new.self l.invariant.0 c.in-Some.ensures.steps in
+    let t = turn l.invariant.0 c.in-Some.b c.next.new.self c.in-Some.ensures.steps in
     let most : c.max-most.result ≡ max l.most c.need.result = search rules in
     (t.after, rw t.next (sym (need_turn s (count_of s) l.b-iterator.next l.most c.max-most.result t.more (most ∙ ap (max l.most) (c.need.ensures ∙ rw t.bytes))) ∙ l.invariant.1))
 
@@ -20,5 +20,5 @@ pub returns : goal.returns
 returns c =
     let l = c.loop-b in
     let s = c.args.s.now in
-    let e = end s l.b-iterator c.next.new.self l.invariant.0 c.in-None.ensures.steps in
+    let e = end l.invariant.0 c.next.new.self c.in-None.ensures.steps in
     sym (need_done s (count_of s) l.b-iterator.next l.most e) ∙ l.invariant.1
