@@ -5,3 +5,4 @@ pub mod PolyPoints
 pub mod Shapeless
 pub mod Lawful
 pub mod Readings
+pub mod Turns

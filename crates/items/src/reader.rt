@@ -1,29 +1,53 @@
-// A sheet being read: its lent bytes and the number of the next item, counted from 0. A function that has a sheet and a number
+// The items of a sheet, one after the other, each as its bytes: `for b in Items::of(s)`. A function that has a sheet and a number
 // reads by `item_bytes`.
-ghost use Rattle.std.specs.Prelude.{◌≡◌};
-ghost use Rattle.sheet.specs.Check.{bytes_at};
+#![tactic(auto)]
+
+ghost use Rattle.std.specs.Prelude.{◌≡◌, ◌-◌, ◌<◌};
+ghost use Rattle.std.specs.Iterator.{at_most};
+ghost use Rattle.sheet.specs.Check.{bytes_at, count_of};
+ghost use Rattle.items.specs.Reader.{NextGives};
 
 use crate::bytes_at;
+use sheet::u16_at;
 
+// A sheet being read: its lent bytes, the number of the next item, counted from 0, and how many items there are.
 #[derive(Clone, Copy)]
-pub struct Reader<'a> {
+pub struct Items<'a> {
     pub sheet: &'a [u8],
     pub next: u16,
+    pub count: u16,
 }
 
-impl<'a> Reader<'a> {
-    // The reader of a sheet, before one of its items.
-    pub fn new(sheet: &'a [u8], next: u16) -> Self
-        ensures { (result.sheet ≡ sheet.entry) × (result.next ≡ next) }
+impl<'a> Items<'a> {
+    // The items of a sheet, from its first one on.
+    pub fn of(sheet: &'a [u8]) -> Self
+        ensures { (result.sheet ≡ sheet.entry) × (result.next ≡ 0) × (result.count ≡ count_of sheet.now)
+            × (count_of sheet.now < 65536) }
     {
-        Reader { sheet, next }
+        let count = u16_at(sheet, 8) as u16;
+        Items {
+            sheet,
+            next: 0,
+            count,
+        }
     }
+}
 
-    // The bytes of the next item: a part of the sheet.
-    pub fn bytes(self) -> &'a [u8]
-        ensures { result.now ≡ bytes_at self.entry.sheet.now self.entry.next }
-    {
-        bytes_at(self.sheet, self.next)
+impl<'a> Iterator for Items<'a> {
+    type Item = &'a [u8];
+
+    ghost remaining = { λ s. at_most (s.count - s.next) };
+
+    ghost next_gives = { NextGives };
+
+    fn next(&mut self) -> Option<&'a [u8]> {
+        if self.next < self.count {
+            let k = self.next;
+            self.next += 1;
+            Some(bytes_at(self.sheet, k))
+        } else {
+            None
+        }
     }
 }
 
@@ -31,5 +55,5 @@ impl<'a> Reader<'a> {
 pub fn item_bytes(s: &[u8], k: u16) -> &[u8]
     ensures { result.now ≡ bytes_at s.now k }
 {
-    Reader::new(s, k).bytes()
+    bytes_at(s, k)
 }

@@ -10,9 +10,9 @@ ghost use Rattle.measure.specs.Walked.{Read, Small, cells_of, Walked};
 use clips::{is_shape, start_state, state_after};
 use draw::{Area, clipped};
 use items::reaches::{need, reach_of};
-use items::reader::item_bytes;
+use items::reader::Items;
 use redraw::Room;
-use sheet::{Kind, check_sheet, kind_at, u16_at};
+use sheet::{Kind, check_sheet, kind_at};
 
 // What the items of a sheet take: scratch words, the most clips saved at once, and the pixels in reach and clip together.
 #[derive(Clone, Copy)]
@@ -48,13 +48,11 @@ fn walk(s: &[u8]) -> Tally
     requires { Read s.now }
     ensures { Walked s.now result.words result.most result.pixels }
 {
-    let n = u16_at(s, 8);
     let mut canvas = start_state(s);
     let mut words = 0;
     let mut most = 0;
     let mut pixels: u64 = 0;
-    for k in 0..n {
-        let b = item_bytes(s, k as u16);
+    for b in Items::of(s) {
         if is_shape(b) {
             words = words.max(words_of(b));
             let area = reach_of(b);

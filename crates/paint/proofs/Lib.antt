@@ -1,4 +1,4 @@
 -- The laws of painting. Assumes nothing.
 pub mod Needs
 pub mod Painting
-pub mod Refused
+pub mod RefusedSheets

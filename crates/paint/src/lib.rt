@@ -3,9 +3,7 @@
 
 ghost use Rattle.std.specs.Prelude.{◌≡◌};
 ghost use Rattle.geom.specs.Refusals.{code, number_of};
-ghost use Rattle.sheet.specs.Check.{bytes_at};
-ghost use Rattle.items.specs.Items.{item_of};
-ghost use Rattle.items.specs.Format.{need_of, sheet_of, format, zero_word};
+ghost use Rattle.items.specs.Format.{sheet_of, format, zero_word};
 ghost use Rattle.redraw.specs.Sheet.{lent_number};
 ghost use Rattle.redraw.specs.Calls.{refused_by, Painted};
 ghost use Rattle.paint.specs.Paint.{need_in, DrewSheet, reply_of};
@@ -17,7 +15,7 @@ use geom::IRect;
 use geom::checks::{Refusal, ensure};
 use items::ground;
 use items::reaches::need;
-use items::reader::item_bytes;
+use items::reader::Items;
 use redraw::{Answer, Reply};
 use render::render;
 use sheet::{Fault, check_sheet, u16_at};
@@ -42,20 +40,13 @@ pub fn refused(fault: Fault) -> Reply
     refusal(fault.refusal.into(), fault.item)
 }
 
-// What the item k needs.
-fn need_at(s: &[u8], k: u16) -> usize
-    ensures { result ≡ need_of (bytes_at s.now k) (item_of (bytes_at s.now k)) }
-{
-    need(item_bytes(s, k))
-}
-
 // The scratch words that a sheet needs. A loop: over `map` and `max` the proof does not close.
 pub fn sheet_need(s: &[u8]) -> usize
     ensures { result ≡ need_in s.now }
 {
     let mut most = 0;
-    for k in 0..u16_at(s, 8) as u16 {
-        most = most.max(need_at(s, k));
+    for b in Items::of(s) {
+        most = most.max(need(b));
     }
     most
 }

@@ -11,13 +11,12 @@ use clips::{is_shape, state_after};
 use color::Color;
 use fill::fill_rrect;
 use gfx::Canvas;
-use items::reader::item_bytes;
+use items::reader::Items;
 use items::{Item, coords, item_of};
 use line::{line, polyline};
 use paints::Paint;
 use poly::fill_poly;
 use shadow::shadow_rrect;
-use sheet::u16_at;
 use stroke::stroke_rrect;
 
 // Draws a polygon of so many points, whose coordinates stand in its bytes; its steps that altered a pixel's value.
@@ -118,11 +117,9 @@ pub fn render(s: &[u8], canvas: Canvas, px: &mut [u32], scratch: &mut [f32]) -> 
         ).scratch (steps_from s.now (count_of s.now) 0
         (stage canvas px.old scratch.old)) px.new scratch.new result }
 {
-    let n = u16_at(s, 8);
     let mut state = canvas;
     let mut steps: u64 = 0;
-    for k in 0..n {
-        let b = item_bytes(s, k as u16);
+    for b in Items::of(s) {
         if is_shape(b) {
             steps += draw_item(b, state, px, scratch);
             continue;

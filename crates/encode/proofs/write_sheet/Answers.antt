@@ -15,7 +15,7 @@ pub returns-then-buf-len : goal.returns-then-buf-len
 returns-then-buf-len g c = λ f gives.
     let a = c.args in
     let len = len_is a.head.now a.items.now f _ c.requires.eight (c.sheet_len-len.ensures f gives) in
-    too_long 0 (encoded a.head.now (map f a.items.now)) a.buf.now (omega (arith, len)) _ c.refused.ensures
+    too_long 0 (encoded a.head.now (map f a.items.now)) a.buf.now (omega (arith, len)) _ (c.refused.ensures ∙ rw c.into.ensures)
 
 pub returns : goal.returns
 returns g c = λ f gives.

@@ -8,7 +8,7 @@ use Rattle.redraw.proofs.Lists.{lends_of}
 use Rattle.items.proofs.Readings.{reads_accepted}
 use Rattle.clips.proofs.Standing.{whole}
 use Rattle.paint.proofs.Painting.{drawn_does}
-use Rattle.paint.proofs.Refused.{sheet_refused}
+use Rattle.paint.proofs.RefusedSheets.{sheet_refused}
 use Rattle.paint.proofs.try_paint.Goals as goal
 
 pub returns-in_err-check_sheet : goal.returns-in_err-check_sheet

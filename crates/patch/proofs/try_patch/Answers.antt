@@ -9,7 +9,7 @@ use Rattle.redraw.proofs.Rules.{patch_old_refused, patch_new_refused, does_refus
 use Rattle.compare.specs.Compare.{Difference}
 use Rattle.compare.proofs.Changes.{held, failed}
 use Rattle.paint.proofs.Painting.{drawn_does}
-use Rattle.paint.proofs.Refused.{sheet_refused}
+use Rattle.paint.proofs.RefusedSheets.{sheet_refused}
 use Rattle.patch.proofs.Patching.{other_header, not_allowed, not_lent, drawn_new, box_clip}
 use Rattle.patch.proofs.try_patch.Goals as goal
 
