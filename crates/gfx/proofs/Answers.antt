@@ -1,11 +1,11 @@
 -- What a call returns, for its contract: by the Result that its answer is made of, or by a number that is tested; n is the number's definition.
 -- Assumes nothing.
-use mathlib.Core.Path.{◌≡◌, refl, sym, ap, ◌∙◌}
+use mathlib.Core.Path.{◌≡◌, refl, ap, ◌∙◌}
 use mathlib.Core.Bool.{cond}
 use mathlib.Core.List.{List}
 use Prim.Native.Nat.{ℕ}
 use lib.Dec.{eqb}
-use borrow.Author.Tests.{eq-eqb, ne_eqb}
+use borrow.Author.Tests.{ne_eqb}
 use Rattle.std.proofs.Common.{Ok, Err}
 use Rattle.std.specs.Bool.{⊤}
 use Rattle.std.specs.declared.result.Result.{Result}
@@ -19,11 +19,8 @@ use Rattle.gfx.specs.declared.Done.{Done}
 use Rattle.gfx.specs.declared.Boxed.{Boxed}
 use Rattle.geom.specs.declared.IRect.{IRect}
 use Rattle.geom.specs.Box.{no_box}
-use Rattle.draw.specs.Draw.{drawn, differ}
-use Rattle.draw.specs.declared.Area.{Area}
-use Rattle.draw.proofs.Clips.{drawn_clip}
-use Rattle.draw.proofs.Loops.{drew_as}
-use Rattle.draw.specs.Areas.{clip_to, drawn_in, Drew}
+use Rattle.draw.specs.Draw.{differ}
+use Rattle.draw.specs.Areas.{Drew}
 use Rattle.color.specs.declared.Pixel.{Pixel}
 
 -- a number and what goes with it

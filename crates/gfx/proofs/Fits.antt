@@ -24,9 +24,7 @@ use Rattle.draw.proofs.Onto.{onto_is}
 use Rattle.draw.proofs.Rows.{within_true, within_in}
 use Rattle.draw.proofs.Clips.{clip_fits}
 use Rattle.gfx.proofs.Valid.{side_of, frame, clip_cases, valid_of_lem}
-use Rattle.draw.specs.declared.Area.{Area}
-use Rattle.gfx.specs.Calls.{px_number, shape_number}
-use Rattle.gfx.proofs.Sizes.{Open, open_of, shape_open}
+use Rattle.gfx.proofs.Sizes.{Open}
 use Rattle.draw.proofs.Frame.{Frame}
 use Rattle.gfx.specs.State.{side_ok}
 use Rattle.gfx.specs.declared.Canvas.{Canvas}

@@ -35,7 +35,7 @@ turn {s} {it} i b to g =
             within = omega (arith, i.count, g.2.0, g.2.1);
             sheet = ap (λ (t : Bor (List ℕ)). t.now) g.0 ∙ i.sheet;
             count = g.1 ∙ i.count;
-          fits = i.fits;
+            fits = i.fits;
           };
     }
 

@@ -1,12 +1,10 @@
 -- `poly::fill::fill_planned` meets its contract. Assumes nothing.
-use mathlib.Core.Path.{◌≡◌, refl, sym, ap, ◌∙◌}
+use mathlib.Core.Path.{◌≡◌, sym, ap, ◌∙◌}
 use mathlib.Core.Bool.{true}
 use mathlib.Core.List.{List, ◌++◌}
-use Prim.Native.Nat.{◌≤◌, ◌<◌}
 use lib.ListN.{length, drop}
 use lib.Seq.{length-take-le}
 use lib.Ieee.{Float}
-use borrow.Author.Tests.{le-leb, lt-leb}
 use Rattle.draw.specs.Areas.{clip_to, AreaFits}
 use Rattle.draw.proofs.Loops.{drew_as, drew_none}
 use Rattle.bounds.specs.Bounds.{poly_box, painted, reach_of, need_of}
