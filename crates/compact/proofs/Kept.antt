@@ -8,7 +8,7 @@ use native.Mathlib.Omega.{arith}
 use borrow.Author.Tests.{le-leb, eqb-true}
 use lib.Dec.{eqb, leb}
 use lib.ListN.{length, take, drop, length-take, get_or-append}
-use lib.Seq.{get_or-take, take_at}
+use lib.Seq.{get_or-take, take_at, length-take-le}
 use Rattle.geom.specs.declared.IRect.{IRect}
 use Rattle.geom.proofs.Bools.{and_left, and_right, and_both}
 use Rattle.sheet.specs.Bytes.{byte_at, all_at, zeros}
@@ -29,11 +29,14 @@ use Rattle.items.specs.declared.Item.{Item}
 use Rattle.items.specs.declared.Item.TheVariants.{Push, Pop, Fill, Stroke, Line, Poly, Shadow, Chain, Unknown}
 use Rattle.items.proofs.Lawful.{own}
 use Rattle.items.proofs.Sound.{saved_after, saved_after_lem}
-use Rattle.chosen.proofs.Turns.{first_eight}
 use Rattle.compact.specs.Compact.{kept_in, compacted}
 
 abbrev Items : Type 0
 Items = List (drawing.Item (List ℕ))
+
+-- the first eight bytes of a sheet that has its first twelve
+first_eight : (s : List ℕ) → 12 ≤ length s → length (take 8 s) ≡ 8
+first_eight s h = length-take-le 8 s (omega arith)
 
 -- an item that goes is a shape, so as many clips are saved after it as before it
 goes_depth : (b : List ℕ) (i : Item) (clip : IRect) (depth : ℕ) → stays kind (drawn_as b i) clip ≡ false → saved_after i depth ≡ depth
