@@ -16,8 +16,8 @@ use clips::{is_shape, start_state, state_after};
 use encode::{Written, refused};
 use geom::IRect;
 use items::reaches::reach_of;
-use items::reader::item_bytes;
-use sheet::{check_sheet, u16_at};
+use items::reader::Items;
+use sheet::check_sheet;
 
 // Whether something of a shape's reach lies in a clip.
 fn in_view(b: &[u8], clip: IRect) -> bool
@@ -32,11 +32,9 @@ fn keep(s: &[u8], kept: &mut [u16]) -> usize
     requires { (sheet_check s.now ≡ verdict 0 0) × (length kept.old ≡ 1024) }
     ensures { (chosen s.now (take result kept.new) ≡ kept_in s.now) × (result ≤ 1024) }
 {
-    let n = u16_at(s, 8);
     let mut canvas = start_state(s);
     let mut count = 0;
-    for k in 0..n {
-        let b = item_bytes(s, k as u16);
+    for (k, b) in Items::of(s).enumerate() {
         kept[count] = k as u16;
         if is_shape(b) {
             let clip = canvas.clip;

@@ -2,7 +2,6 @@
 use Rattle.std.proofs.Common.{rules}
 use Prim.Native.Nat.{max}
 use mathlib.Core.Path.{◌≡◌, sym, ap, ◌∙◌}
-use native.Mathlib.Omega.{arith}
 use Rattle.sheet.specs.Check.{count_of}
 use Rattle.items.proofs.Turns.{turn, end}
 use Rattle.paint.proofs.Needs.{need_turn, need_done}

@@ -1,11 +1,10 @@
 -- `render::render` meets its contract: what is drawn so far, drawn on, is the whole. Assumes nothing.
 use Prim.Native.Nat.{◌≤◌}
-use mathlib.Core.Path.{◌≡◌, sym, ◌∙◌}
+use mathlib.Core.Path.{sym, ◌∙◌}
 use native.Mathlib.Omega.{arith}
-use Rattle.sheet.specs.Check.{count_of}
 use Rattle.items.proofs.Turns.{turn, end}
 use Rattle.render.proofs.Few.{item_few}
-use Rattle.render.proofs.Turns.{run_start, run_shape, run_other, run_end}
+use Rattle.render.proofs.Turns.{run_shape, run_other, run_end}
 use Rattle.render.proofs.render.Goals as goal
 
 pub overflow_add-steps : goal.overflow_add-steps
