@@ -19,7 +19,7 @@ unfolding no_box
 loop-k-init c =
     let a = c.args in
     let all = change_from a.old.now a.new.now a.n 0 (start_of a.new.now) in
-    (omega arith, omega arith, rw (sub-zero a.n, c.new-area.ensures, c.start_state-state.ensures) (sym (told_first c.canvas_of-canvas.result all)))
+    (omega arith, omega arith, rw (sub-zero a.n, c.start_state-state.ensures) (sym (told_first c.canvas_of-canvas.result all)))
 
 -- one of the items k is no shape
 pub returns-in_err-ensure : goal.returns-in_err-ensure

@@ -13,7 +13,7 @@ accepted c = sym c.poly_ok.ensures ∙ c.if-not-poly_ok.false
 pub returns-then-not-poly_ok : goal.returns-then-not-poly_ok
 unfolding no_box
 returns-then-not-poly_ok c =
-    c.new.ensures ∙ reach_out c.args.pts.now (sym c.poly_ok.ensures ∙ c.if-not-poly_ok.true)
+    reach_out c.args.pts.now (sym c.poly_ok.ensures ∙ c.if-not-poly_ok.true)
 
 pub plan_of-requires : goal.plan_of-requires
 plan_of-requires c =
