@@ -23,7 +23,7 @@ use Rattle.redraw.specs.Drawing as drawing
 use Rattle.redraw.specs.Drawing.{push, pop, shape}
 use Rattle.redraw.specs.Sheet.{Change, other, shapes, with_pair, both_shapes, few, reaches, Sheet, refuses, canvas, lent, too_many, patch_by}
 use Rattle.items.specs.Items.{item_of}
-use Rattle.items.specs.Format.{kind, format, item_in}
+use Rattle.items.specs.Format.{kind, format, item_in, same_item}
 use Rattle.gfx.specs.declared.Canvas.{Canvas}
 use Rattle.clips.specs.States.{start_of, state_after, is_shape}
 use Rattle.clips.proofs.Shapes.{shape_own, shape_leaves}
@@ -115,6 +115,11 @@ module _ (old new : List ℕ) where
 
   pub even : (n : ℕ) → n ≡ count_of old → n ≡ count_of new → found old new ≡ change_from old new n 0 (start_of new)
   even n p q = rw (eq-eqb (count_of old) (count_of new) (sym p ∙ q), ← q)
+
+  -- the items k by their bytes
+  pub same_of : (k : ℕ) {a b : List ℕ} → a ≡ bytes_at old k → b ≡ bytes_at new k → (same : Bool) → same ≡ same_item (item_in a) (item_in b) → same ≡ same_at old new k
+  unfolding same_at
+  same_of k p q same s = s ∙ rw (p, q)
 
   -- the items from k on, of which m are left after it, where the items k are the same, and where they differ
   module _ (left m k : ℕ) (l : left ≡ m + 1) (c : Canvas) where

@@ -11,13 +11,10 @@ use Rattle.gfx.specs.declared.Canvas.{Canvas}
 use Rattle.sheet.specs.Check.{count_of, bytes_at}
 use Rattle.redraw.specs.Sheet.{Change, other, shapes, both_shapes, few, reaches}
 use Rattle.items.specs.Items.{item_of}
-use Rattle.items.specs.Format.{reach_of, kind, item_in, same_item}
+use Rattle.items.specs.Format.{kind, item_in, same_item}
 use Rattle.clips.specs.States.{start_of, state_after}
 
 -- ---- item by item
-
-abbrev pub reach_at : List ℕ → ℕ → IRect
-reach_at s k = reach_of (bytes_at s k) (item_of (bytes_at s k))
 
 unfoldable pub same_at : List ℕ → List ℕ → ℕ → Bool
 same_at old new k = same_item (item_in (bytes_at old k)) (item_in (bytes_at new k))

@@ -1,15 +1,15 @@
 // How two sheets differ: what a patch needs to know of them. Every function here takes any bytes at all.
 #![tactic(auto)]
 
-ghost use Rattle.std.specs.Prelude.{◌≡◌, ◌&&◌, ◌<◌};
+ghost use Rattle.std.specs.Prelude.{◌≡◌, ◌&&◌};
 ghost use Rattle.geom.specs.Box as Box;
 ghost use Rattle.geom.specs.Box.{meet, no_box};
-ghost use Rattle.sheet.specs.Check.{bytes_at};
+ghost use Rattle.sheet.specs.Check.{count_of};
 ghost use Rattle.redraw.specs.Sheet.{canvas, same_header};
 ghost use Rattle.items.specs.Items.{item_of};
-ghost use Rattle.items.specs.Format.{same_bytes, item_in, sheet_of};
-ghost use Rattle.clips.specs.States.{start_of, state_after, is_shape};
-ghost use Rattle.compare.specs.Compare.{same_at, change_from, found, reach_at, told_by, settled, changed_by};
+ghost use Rattle.items.specs.Format.{same_bytes, same_item, item_in, reach_of, sheet_of};
+ghost use Rattle.clips.specs.States.{start_of, is_shape};
+ghost use Rattle.compare.specs.Compare.{change_from, found, told_by, settled, changed_by};
 
 use clips::{canvas_of, is_shape, start_state, state_after};
 use geom::checks::{Refusal, ensure};
@@ -17,7 +17,7 @@ use geom::{IRect, join};
 use gfx::Canvas;
 use items::ground;
 use items::reaches::reach;
-use items::reader::item_bytes;
+use items::reader::Items;
 use sheet::u16_at;
 
 // Whether two runs of bytes are the same.
@@ -28,57 +28,36 @@ pub fn same_bytes(a: &[u8], b: &[u8]) -> bool
     a == b
 }
 
-// Whether the items k of two sheets are the same.
-#[tactic(auto, using(items::proofs::Lawful::same_in), unfolding(crate::specs::Compare::same_at))]
-fn same_at(old: &[u8], new: &[u8], k: u16) -> bool
-    ensures { result ≡ same_at old.now new.now k }
+// Whether two items are the same, by their bytes.
+#[tactic(auto, using(items::proofs::Lawful::same_in))]
+fn same(a: &[u8], b: &[u8]) -> bool
+    ensures { result ≡ same_item (item_in a.now) (item_in b.now) }
 {
-    same_bytes(item_bytes(old, k), item_bytes(new, k))
+    same_bytes(a, b)
 }
 
-// Whether the item k is a shape.
-fn shape_at(s: &[u8], k: u16) -> bool
-    ensures { result ≡ is_shape (item_in (bytes_at s.now k)) }
+// Whether both of two items are shapes.
+fn both_shapes(a: &[u8], b: &[u8]) -> bool
+    ensures { result ≡ is_shape (item_in a.now) && is_shape (item_in b.now) }
 {
-    is_shape(item_bytes(s, k))
+    is_shape(a) && is_shape(b)
 }
 
-// Whether both items k are shapes.
-fn both_shapes(old: &[u8], new: &[u8], k: u16) -> bool
-    ensures { result ≡ is_shape (item_in (bytes_at old.now k)) && is_shape (item_in (bytes_at new.now k)) }
+// What the reach of an item, cut by the clip in force at it, has in a canvas.
+fn cut(canvas: IRect, clip: IRect, b: &[u8]) -> IRect
+    ensures { result ≡ meet canvas (meet clip (reach_of b.now (item_of b.now))) }
 {
-    shape_at(old, k) && shape_at(new, k)
+    canvas.intersect(clip.intersect(reach(b)))
 }
 
-// The reach of the item k.
-fn reach_at(s: &[u8], k: u16) -> IRect
-    ensures { result ≡ reach_at s.now k }
+// The smallest box around a box and what the reaches of two items, cut by the clip in force at them, have in a canvas.
+fn area_with(area: IRect, canvas: IRect, clip: IRect, old: &[u8], new: &[u8]) -> IRect
+    ensures { result ≡ Box.join (Box.join area (meet canvas (meet clip (reach_of old.now (item_of old.now)))))
+        (meet canvas (meet clip (reach_of new.now (item_of new.now)))) }
 {
-    reach(item_bytes(s, k))
-}
-
-// What the reach of the item k, cut by the clip in force at it, has in a canvas.
-fn cut_at(canvas: IRect, clip: IRect, s: &[u8], k: u16) -> IRect
-    ensures { result ≡ meet canvas (meet clip (reach_at s.now k)) }
-{
-    canvas.intersect(clip.intersect(reach_at(s, k)))
-}
-
-// The smallest box around a box and what the reaches of the items k, cut by the clip in force at them, have in a canvas.
-fn area_with(area: IRect, canvas: IRect, clip: IRect, old: &[u8], new: &[u8], k: u16) -> IRect
-    ensures { result ≡ Box.join (Box.join area (meet canvas (meet clip (reach_at old.now k))))
-        (meet canvas (meet clip (reach_at new.now k))) }
-{
-    let a = cut_at(canvas, clip, old, k);
-    let b = cut_at(canvas, clip, new, k);
+    let a = cut(canvas, clip, old);
+    let b = cut(canvas, clip, new);
     join(join(area, a), b)
-}
-
-// The state of the canvas after the item k.
-fn state_at(s: &[u8], k: u16, state: Canvas) -> Canvas
-    ensures { result ≡ state_after (item_of (bytes_at s.now k)) state }
-{
-    state_after(item_bytes(s, k), state)
 }
 
 // What so many pairs of shapes that differ tell, by the box around what their reaches, under their clips, have in the canvas; an
@@ -91,24 +70,25 @@ fn settled(count: u16, area: IRect) -> Result<IRect, Refusal>
     Ok(join(area, IRect::ZERO))
 }
 
-// What two sheets of n items each tell. A push or a pop that differs is refused by 10, wherever it stands; so the loop goes on
-// past 32 shapes, and the clip is that of both sheets all along. A shape leaves the state, which is copied at a push or a pop
-// alone.
-fn changed_in(old: &[u8], new: &[u8], n: u16) -> Result<IRect, Refusal>
+// What two sheets of as many items each tell. A push or a pop that differs is refused by 10, wherever it stands; so the loop
+// goes on past 32 shapes, and the clip is that of both sheets all along. A shape leaves the state, which is copied at a push or
+// a pop alone.
+fn changed_in(old: &[u8], new: &[u8]) -> Result<IRect, Refusal>
+    requires { count_of old.now ≡ count_of new.now }
     ensures { told_by result ≡ changed_by (canvas (sheet_of new.now))
-        (change_from old.now new.now n 0 (start_of new.now)) }
+        (change_from old.now new.now (count_of new.now) 0 (start_of new.now)) }
 {
     let canvas = canvas_of(new);
     let mut state = start_state(new);
     let mut area = IRect::ZERO;
     let mut count = 0;
-    for k in 0..n {
-        if !same_at(old, new, k) {
-            ensure(both_shapes(old, new, k), Refusal::Difference)?;
-            area = area_with(area, canvas, state.clip, old, new, k);
+    for (a, b) in Items::of(old).zip(Items::of(new)) {
+        if !same(a, b) {
+            ensure(both_shapes(a, b), Refusal::Difference)?;
+            area = area_with(area, canvas, state.clip, a, b);
             count += 1;
-        } else if !shape_at(new, k) {
-            state = state_at(new, k, state);
+        } else if !is_shape(b) {
+            state = state_after(b, state);
         }
     }
     settled(count, area)
@@ -118,9 +98,8 @@ fn changed_in(old: &[u8], new: &[u8], n: u16) -> Result<IRect, Refusal>
 pub fn changed(old: &[u8], new: &[u8]) -> Result<IRect, Refusal>
     ensures { told_by result ≡ changed_by (canvas (sheet_of new.now)) (found old.now new.now) }
 {
-    let n = u16_at(old, 8);
-    ensure(n == u16_at(new, 8), Refusal::Difference)?;
-    changed_in(old, new, n as u16)
+    ensure(u16_at(old, 8) == u16_at(new, 8), Refusal::Difference)?;
+    changed_in(old, new)
 }
 
 // Whether two sheets agree in width, height and ground.
