@@ -39,7 +39,7 @@ loop-a-init c =
       search rules,
       c.of.ensures.1 ∙ sym c.of-2.ensures.1,
       omega arith,
-      rw (c.of-2.ensures.1, sub-zero (count_of new), c.new-area.ensures, c.start_state-state.ensures) (sym (told_first c.canvas_of-canvas.result all)),
+      rw (c.of-2.ensures.1, sub-zero (count_of new), c.start_state-state.ensures) (sym (told_first c.canvas_of-canvas.result all)),
     )
 
 -- one of two items is no shape
