@@ -12,7 +12,7 @@ use draw::{Area, clipped};
 use items::reaches::{need, reach_of};
 use items::reader::Items;
 use redraw::Room;
-use sheet::{Kind, check_sheet, kind_at};
+use sheet::check_sheet;
 
 // What the items of a sheet take: scratch words, the most clips saved at once, and the pixels in reach and clip together.
 #[derive(Clone, Copy)]
@@ -32,17 +32,6 @@ fn cells(a: Area) -> u64
     (w * h) as u64
 }
 
-// The scratch words that an item needs. A polygon alone needs any, so no other is asked.
-#[tactic(auto, unfolding(items::specs::Items::read_item, items::specs::Format::need_of))]
-fn words_of(b: &[u8]) -> usize
-    ensures { result ≡ need_of b.now (item_of b.now) }
-{
-    match kind_at(b, 0) {
-        Ok(Kind::Poly) => need(b),
-        _ => 0,
-    }
-}
-
 // The items of an accepted sheet, one after the other.
 fn walk(s: &[u8]) -> Tally
     requires { Read s.now }
@@ -54,7 +43,7 @@ fn walk(s: &[u8]) -> Tally
     let mut pixels: u64 = 0;
     for b in Items::of(s) {
         if is_shape(b) {
-            words = words.max(words_of(b));
+            words = words.max(need(b));
             let area = reach_of(b);
             let clip = canvas.clip;
             pixels += cells(clipped(area, clip));

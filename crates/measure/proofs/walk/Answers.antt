@@ -32,7 +32,7 @@ loop-b-preserved-then-is_shape c =
     let reach = c.clipped.ensures ∙ rw (c.reach_of-area.ensures, t.bytes) in (
       t.after,
       rw (t.next, c.max-words.ensures, larger_is)
-          (walking_shape _ c.requires _ refl _ _ _ _ _ i.1 t.more shape _ _ (c.words_of.ensures ∙ rw t.bytes) (met.0 ∙ ap cells_of reach) met.1),
+          (walking_shape _ c.requires _ refl _ _ _ _ _ i.1 t.more shape _ _ (c.need.ensures ∙ rw t.bytes) (met.0 ∙ ap cells_of reach) met.1),
     )
 
 -- ---- a push or a pop

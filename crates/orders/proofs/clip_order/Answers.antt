@@ -1,5 +1,5 @@
 -- `orders::clip_order` meets its contract. Assumes nothing.
-use Rattle.std.proofs.Common.{rules, ◌≡◌, refl, ℕ, ◌-◌, ◌≤◌, ◌<◌, List, map, length, take, drop, length-drop, take_all, arith}
+use Rattle.std.proofs.Common.{rules, ◌≡◌, refl, ℕ, ◌-◌, ◌≤◌, ◌<◌, List, map, length, take, drop, length-drop, take_all, arith, ◌∙◌}
 use borrow.Author.Tests.{lt-ltb, le-ltb}
 use Rattle.encode.specs.Encode.{encoded, fit_number, Wrote}
 use Rattle.encode.specs.declared.Written.{Written}
@@ -26,7 +26,7 @@ module _ (k : ℕ) (buf : List ℕ) where
   an_order h kinds e r buf' w = rw (lt-ltb k 1093 h, order_is k h, ← e, ← items_of item kinds) w
 
 pub returns-then-number-ge1093 : goal.returns-then-number-ge1093
-returns-then-number-ge1093 c = no_order c.args.number c.args.buf.now c.if-number-ge1093.true _ c.refused.ensures
+returns-then-number-ge1093 c = no_order c.args.number c.args.buf.now c.if-number-ge1093.true _ (c.refused.ensures ∙ rw c.into.ensures)
 
 pub returns : goal.returns
 returns c =
