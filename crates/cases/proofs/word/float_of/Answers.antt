@@ -2,7 +2,7 @@
 -- Assumes nothing.
 use Rattle.std.proofs.Common.{sym}
 use lib.Ieee.{div, of_bits}
-use Rattle.cases.proofs.Floats.{above_nan, below_nan}
+use Rattle.sheet.proofs.Places.{above_nan, below_nan}
 use Rattle.cases.proofs.word.float_of.Goals as goal
 
 pub float_from_bits-result : goal.float_from_bits-result

@@ -1,2 +1,0 @@
--- Laws that the proofs of `cases` cite. Assumes nothing.
-pub mod Floats
