@@ -6,8 +6,8 @@ use native.Mathlib.Omega.{arith}
 use lib.Dec.{lit<}
 use lib.IntN.{ℤ, pos, negsuc, nat_abs, ◌+ℤ◌, ◌-ℤ◌}
 use mir.Syntax.{w32}
-use mir.Val.{to_z, of_z}
-use Rattle.mathf.proofs.Ints.{sum_size, difference_size, small_back}
+use mir.Val.{SFits, to_z, of_z}
+use Rattle.mathf.proofs.Ints.{sum_size, difference_size, small_fits, small_back}
 use Rattle.geom.specs.Int.{up}
 
 -- what is stored is read again; of a natural number n, `of_z w32 (pos n)` is n
@@ -18,8 +18,14 @@ module _ (a b : ℤ) (h : nat_abs a ≤ 16386) (k : nat_abs b ≤ 16386) where
   pub sum_small : nat_abs (a +ℤ b) ≤ 65536
   sum_small = let s = sum_size a b in omega arith
 
+  pub sum_fits : SFits w32 (a +ℤ b)
+  sum_fits = small_fits (lt_of_le_of_lt sum_small (lit< tt))
+
   pub difference_small : nat_abs (a -ℤ b) ≤ 65536
   difference_small = let s = difference_size a b in omega arith
+
+  pub difference_fits : SFits w32 (a -ℤ b)
+  difference_fits = small_fits (lt_of_le_of_lt difference_small (lit< tt))
 
 pub up_size : (z : ℤ) → up z ≤ nat_abs z
 up_size (pos n) = le_refl n

@@ -10,7 +10,7 @@ use Rattle.bounds.specs.declared.Extent.{Extent}
 use Rattle.bounds.specs.Bounds.{point_at, widened, extent_of}
 
 module _ (pts : List Float) (n : ℕ) where
-  extent_more : extent_of pts (n + 1) ≡ widened (extent_of pts n) (point_at pts n)
+  pub extent_more : extent_of pts (n + 1) ≡ widened (extent_of pts n) (point_at pts n)
   unfolding extent_of
   extent_more = ap (λ (k : ℕ). extent_of pts k) (add-one n)
 

@@ -14,6 +14,29 @@ use Rattle.items.specs.declared.Item.{Item}
 use Rattle.items.specs.declared.Item.TheVariants.{Push, Pop, Fill, Stroke, Line, Poly, Shadow, Chain, Unknown}
 use Rattle.clips.specs.States.{state_after, is_shape}
 
+pub no_push : (b : List ℕ) → kind_at b 0 ≡ 1 → false ≡ is_shape (item_in b)
+unfolding read_item drawn_as is_shape
+no_push b k = simp k
+
+pub no_pop : (b : List ℕ) → kind_at b 0 ≡ 2 → false ≡ is_shape (item_in b)
+unfolding read_item drawn_as is_shape
+no_pop b k = simp k
+
+pub a_shape : (b : List ℕ) → (kind_at b 0 ≡ 1 → ⊥) → (kind_at b 0 ≡ 2 → ⊥) → true ≡ is_shape (item_in b)
+unfolding read_item drawn_as is_shape
+a_shape b p q =
+    let is : ℕ → Bool = λ n. eqb (kind_at b 0) n in
+    rw (ne_eqb (kind_at b 0) 1 p, ne_eqb (kind_at b 0) 2 q) (go (is 3) (is 4) (is 5) (is 6) (is 7) (is 8))
+  where
+    go : (r s t u v w : Bool) → true ≡ is_shape (drawn_as b (cond r (read_fill b 0) (cond s (read_stroke b 0) (cond t (read_line b 0) (cond u (read_poly b 0) (cond v (read_shadow b 0) (cond w (read_chain b 0) Unknown)))))))
+    go true s t u v w = refl
+    go false true t u v w = refl
+    go false false true u v w = refl
+    go false false false true v w = refl
+    go false false false false true w = refl
+    go false false false false false true = refl
+    go false false false false false false = refl
+
 pub shape_own : (b : List ℕ) (i : Item) → is_shape (drawn_as b i) ≡ true → drawn_as b i ≡ shape b
 unfolding drawn_as is_shape
 shape_own b (Push rect) e = absurd (false≢true e)

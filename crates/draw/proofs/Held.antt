@@ -34,6 +34,10 @@ module _ {f : ℕ → ℕ} {size x0 x1 : ℕ} {row : List ℕ} where
           other : k < x → get_or (set row x v) k 0 ≡ f k
           other u = get_or-set_other row x k v 0 (λ q. omega arith) ∙ i.held k a u
 
+  pub held_end : {x : ℕ} → Filling f size x0 x1 row x → x1 ≤ x → Holds f x0 x1 row
+  unfolding Holds
+  held_end i h k a b = i.held k a (omega arith)
+
 pub held_part : (f : ℕ → ℕ) (x0 x1 : ℕ) (row : List ℕ) {a b : ℕ} → Holds f x0 x1 row → x0 ≤ a → b ≤ x1 → Holds f a b row
 unfolding Holds
 held_part f x0 x1 row i h u k l m = i k (omega arith) (omega arith)

@@ -5,11 +5,11 @@
 --     row_pass                  the turn stores nothing, since f leaves the pixel
 --     row_span                  a call drew a part of the row
 --     row_three, row_clamped    a row whose parts three calls drew
---     three_fit                 the counts of the parts can be added
+--     clamped_order, three_fit  the parts stand in order, and their counts can be added
 --     rows_next                 a call drew row y
 --     row_end, rows_end         the loop is left
 --     drew_as                   what is drawn, told otherwise
---     drew_none                 nothing is drawn, and so nothing is counted
+--     drew_none, drew_kept      nothing is drawn, and so nothing is counted
 --     bit_most                  a turn counts 1 at most
 -- Assumes nothing.
 use mathlib.Core.Path.{◌≡◌, refl, sym, ap, ◌∙◌}
@@ -54,6 +54,9 @@ drew_as d e = record { paints = d.paints ∙ e; counts = d.counts; few = d.few }
 -- nothing is drawn
 pub drew_none : {most : ℕ} {px drawn : List ℕ} → px ≡ drawn → Drew most px drawn 0 px
 drew_none {px = px} e = record { paints = e; counts = sym (differ_same px); few = omega arith }
+
+pub drew_kept : {most n : ℕ} {px px' : List ℕ} → Drew most px px n px' → n ≡ 0
+drew_kept {px = px} d = d.counts ∙ ap (differ px) d.paints ∙ differ_same px
 
 pub row_start_lem : (pitch : ℕ) (f : ℕ → ℕ → ℕ → ℕ) (y x0 x1 : ℕ) (px : List ℕ) → x0 ≤ x1 → InRow pitch f y x0 x1 px px 0 x0
 row_start_lem pitch f y x0 x1 px h =
@@ -157,6 +160,10 @@ row_clamped pitch f g m y x0 x1 le rs a b px px₁ px₂ px₃ o ea eb d₁ d₂
     (λ x p l h. out x p (within_below le rs x (omega arith)))
     (λ x p l h. in' x p (within_in le rs x (omega arith) (omega arith)))
     (λ x p l h. out x p (within_above le rs x (omega arith)))
+
+-- the ends of the middle part stand in order
+pub clamped_order : {x0 x1 a b : ℕ} (le rs : ℕ) → x0 ≤ x1 → a ≡ max x0 (min le x1) → b ≡ max a (min rs x1) → (x0 ≤ a) × (a ≤ b) × (b ≤ x1)
+clamped_order le rs o ea eb = (omega arith, omega arith, omega arith)
 
 -- the counts of three parts of a row can be added
 pub three_fit : {x0 a b x1 n₁ n₂ n₃ : ℕ} → x1 ≤ 2048 → (x0 ≤ a) × (a ≤ b) × (b ≤ x1) → n₁ ≤ a - x0 → n₂ ≤ b - a → n₃ ≤ x1 - b

@@ -3,7 +3,7 @@ use mathlib.Core.Path.{◌≡◌, refl}
 use mathlib.Core.Bool.{Bool, true, false, cond}
 use Prim.Native.Nat.{ℕ, suc}
 use native.Mathlib.Omega.{arith}
-use borrow.Author.Tests.{eqb-true, eqb-false}
+use borrow.Author.Tests.{eq-eqb, ne_eqb, eqb-true, eqb-false}
 use lib.Dec.{eqb}
 use Rattle.geom.specs.Refusals.{code, unless, and_then}
 use Rattle.geom.specs.declared.checks.Refusal.{Refusal}
@@ -40,6 +40,14 @@ code_some Order = refl
 pub passed : (t : Bool) (n rest : ℕ) → unless t (suc n) rest ≡ 0 → (t ≡ true) × (rest ≡ 0)
 passed true n rest e = (refl, e)
 passed false n rest e = absurd (never e)
+
+-- m is the number n of the tests before: it is that of the whole call where it is not 0
+pub then_refused : {m n : ℕ} (rest : ℕ) → m ≡ n → (m ≡ 0 → ⊥) → m ≡ and_then n rest
+then_refused {m} rest e k = rw (← e, ne_eqb m 0 k)
+
+-- .. and else the tests after them decide
+pub then_passed : {n : ℕ} (rest : ℕ) → n ≡ 0 → rest ≡ and_then n rest
+then_passed {n} rest e = rw (eq-eqb n 0 e)
 
 -- both are 0 where the whole is
 pub then_open : (n rest : ℕ) → and_then n rest ≡ 0 → (n ≡ 0) × (rest ≡ 0)

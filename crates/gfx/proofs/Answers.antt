@@ -5,7 +5,7 @@ use mathlib.Core.Bool.{cond}
 use mathlib.Core.List.{List}
 use Prim.Native.Nat.{ℕ}
 use lib.Dec.{eqb}
-use borrow.Author.Tests.{ne_eqb}
+use borrow.Author.Tests.{eq-eqb, ne_eqb}
 use Rattle.std.proofs.Common.{Ok, Err}
 use Rattle.std.specs.Bool.{⊤}
 use Rattle.std.specs.declared.result.Result.{Result}
@@ -96,6 +96,14 @@ module _ {n m : ℕ} (e : m ≡ n) where
     unfolding answer
     refused_state given next = done_is e (stays next given)
 
+    pub refused_pixel : (v : ℕ) → ◌≡◌ {A = Pixel} (record { number = m; value = 0 }) (pixel_answer n v)
+    unfolding pixel_answer
+    refused_pixel v = pixel_is e (stays v 0)
+
+    pub refused_box : (b : IRect) → ◌≡◌ {A = Boxed} (record { number = m; area = no_box }) (box_answer n b)
+    unfolding box_answer
+    refused_box b = box_is e (stays b no_box)
+
     pub refused_call : {given next : Canvas} {px drawn : List ℕ} → Called n given next px drawn (record { number = m; canvas = given }) px
     unfolding left
     refused_call {given} {next} {px} {drawn} = record { answers = refused_state given next; paints = stays drawn px }
@@ -104,3 +112,33 @@ module _ {n m : ℕ} (e : m ≡ n) where
     pub refused_shape : {c : Canvas} {px drawn : List ℕ} {count : ℕ}
         → CalledCounted n c px drawn count (record { number = m; canvas = c; steps = 0 }) px
     refused_shape {c} {px} {drawn} {count} = record { called = refused_call; counts = stays count 0 }
+
+  module _ (z : m ≡ 0) where
+    -- what is next follows
+    follows : {A : Type 0} (next given : A) → next ≡ cond (eqb n 0) next given
+    follows next given = rw (← e, eq-eqb m 0 z)
+
+    pub accepted_state : (given next : Canvas) → ◌≡◌ {A = Done} (record { number = m; canvas = next }) (answer n given next)
+    unfolding answer
+    accepted_state given next = done_is e (follows next given)
+
+    pub accepted_pixel : (v : ℕ) → ◌≡◌ {A = Pixel} (record { number = m; value = v }) (pixel_answer n v)
+    unfolding pixel_answer
+    accepted_pixel v = pixel_is e (follows v 0)
+
+    pub accepted_box : (b : IRect) → ◌≡◌ {A = Boxed} (record { number = m; area = b }) (box_answer n b)
+    unfolding box_answer
+    accepted_box b = box_is e (follows b no_box)
+
+    pub accepted_call : {given next : Canvas} {px drawn : List ℕ} → Called n given next px drawn (record { number = m; canvas = next }) drawn
+    unfolding left
+    accepted_call {given} {next} {px} {drawn} = record { answers = accepted_state given next; paints = follows drawn px }
+
+    -- by what is drawn and what is counted; and of a shape that takes one step at each pixel
+    pub accepted_counted : {c : Canvas} {px drawn px' : List ℕ} {count k : ℕ} → px' ≡ drawn → k ≡ count
+        → CalledCounted n c px drawn count (record { number = m; canvas = c; steps = k }) px'
+    accepted_counted {c} {px} {drawn} {px'} {count} {k} p q = record { called = rw p accepted_call; counts = q ∙ follows count 0 }
+
+    pub accepted_shape : {c : Canvas} {px drawn px' : List ℕ} {most k : ℕ} → Drew most px drawn k px'
+        → ShapeCalled n c px drawn (record { number = m; canvas = c; steps = k }) px'
+    accepted_shape {c} {px} {drawn} {px'} {most} {k} d = accepted_counted d.paints (d.counts ∙ ap (differ px) d.paints)

@@ -2,19 +2,22 @@
 use mathlib.Core.Path.{◌≡◌, refl, sym, ◌∙◌}
 use mathlib.Core.Bool.{Bool, true, false, ◌&&◌}
 use mathlib.Core.List.{List}
-use Prim.Native.Nat.{ℕ, ◌%◌, ◌<◌, ◌≤◌}
+use Prim.Native.Nat.{ℕ, ◌+◌, ◌%◌, ◌<◌, ◌≤◌}
+use native.Mathlib.Numerals.{add-one}
 use native.Mathlib.Omega.{arith}
 use lib.Ieee.{Float, nan}
 use lib.Dec.{eqb, leb}
-use lib.ListN.{length}
+use lib.ListN.{length, get_or, drop, drop_of_length-le}
+use lib.Seq.{drop-cons}
 use borrow.Author.Tests.{leb-true}
 use Rattle.geom.proofs.Bools.{and_left, and_right, split}
 use Rattle.std.specs.Bool.{Decides, MatchBool}
 use Rattle.std.specs.List.{All, AllWithin, HoldsAt}
 use Rattle.std.proofs.lemmas.Bool.Decides.{Decides-by_and}
 use Rattle.geom.specs.Plane.{float_ok}
-use Rattle.geom.proofs.Refusals.{passed}
+use Rattle.geom.proofs.Refusals.{passed, then_passed}
 use Rattle.gfx.proofs.Sizes.{Open, px_open}
+use Rattle.gfx.specs.Calls.{unless, px_number}
 use Rattle.gfx.specs.Points.{points_ok, coords_ok, points_number}
 use Rattle.gfx.specs.declared.Canvas.{Canvas}
 
@@ -30,6 +33,21 @@ pub coords_told : (pts : List Float) (r : Bool)
 coords_told pts true h = sym ((coords_all pts).1 (λ k d l. h k d (omega arith) l))
 coords_told pts false h =
     sym (split (coords_ok pts) (λ t. t ≡ false) (λ e. sym ((coords_all pts).0 e h.0 nan h.1) ∙ h.2 nan) (λ e. refl))
+
+-- t is the test of the coordinate at i
+pub coords_turn : (pts : List Float) (i : ℕ) (d : Float) {t : Bool} → i < length pts → float_ok (get_or pts i d) ≡ t → coords_ok (drop i pts) ≡ (t && coords_ok (drop (i + 1) pts))
+unfolding coords_ok
+coords_turn pts i d h e = rw (drop-cons pts i d h, add-one, e)
+
+pub coords_done : (pts : List Float) (i : ℕ) → length pts ≤ i → coords_ok (drop i pts) ≡ true
+unfolding coords_ok
+coords_done pts i h = rw (drop_of_length-le pts h)
+
+-- the number after the tests of state and px: t is the test of the count, u that of the floats
+pub points_passed : (c : Canvas) (n : ℕ) (pts : List Float) (others : Bool) {t u : Bool} → px_number c n ≡ 0 → points_ok pts ≡ t → (coords_ok pts && others) ≡ u
+    → unless t 13 (unless u 6 0) ≡ points_number c n pts others
+unfolding points_number
+points_passed c n pts others e p f = rw (p, f) (then_passed _ e)
 
 -- a call with points that is not refused
 pub record OpenPoints (c : Canvas) (n : ℕ) (pts : List Float) (others : Bool) : Type 0 where

@@ -1,10 +1,11 @@
 -- The test of the saved clips, place by place. Assumes nothing.
 use mathlib.Core.Path.{◌≡◌, refl, sym, ap, ◌∙◌}
-use mathlib.Core.Bool.{Bool, true, false, cond, ◌&&◌, true≢false}
+use mathlib.Core.Bool.{Bool, true, false, cond, ◌&&◌, true≢false, and-false}
 use mathlib.Core.Logic.{⊎_elim}
-use Prim.Native.Nat.{ℕ, zero, suc, ◌<◌}
+use Prim.Native.Nat.{ℕ, zero, suc, ◌+◌, ◌<◌}
 use native.Mathlib.Nat.{eq-or-lt_of_le, le_of_suc-le-suc, not-suc-le-zero}
 use native.Mathlib.Omega.{arith}
+use native.Mathlib.Numerals.{add-one}
 use Rattle.geom.proofs.Bools.{and_left, and_right, and_both, split}
 use lib.IntN.{ℤ, pos, negsuc}
 use borrow.Author.Tests.{eqb-true}
@@ -38,6 +39,21 @@ zeros_is b = rw (zero_is b.x0, zero_is b.y0, zero_is b.x1, zero_is b.y1) (pairs 
     pairs : (p q r : Bool) → (p && (q && r)) ≡ ((p && q) && r)
     pairs true q r = refl
     pairs false q r = refl
+
+pub places_none : (c : Canvas) → places_ok c 0 ≡ true
+unfolding places_ok
+places_none c = refl
+
+pub places_more : (c : Canvas) (i : ℕ) → places_ok c i ≡ true → place_ok c i ≡ true → places_ok c (i + 1) ≡ true
+unfolding places_ok
+places_more c i p q = rw (add-one, p, q)
+
+pub places_fail : (c : Canvas) (i n : ℕ) → i < n → place_ok c i ≡ false → places_ok c n ≡ false
+unfolding places_ok
+places_fail c i zero h q = absurd (not-suc-le-zero h)
+places_fail c i (suc n) h q =
+    ⊎_elim (λ e. rw (← e) (rw q (and-false (places_ok c i)))) (λ k. rw (places_fail c i n k q))
+    (eq-or-lt_of_le (le_of_suc-le-suc h))
 
 -- the test says that each place is all right, and the other way round
 pub places_at : (c : Canvas) (n : ℕ) → places_ok c n ≡ true → (i : ℕ) → i < n → place_ok c i ≡ true

@@ -1,6 +1,6 @@
 -- What a caller learns of the whole numbers next to a float in a known range: an index that is in bounds. A NaN gives 0.
 -- `hi` is any float that is the whole number n: `n as f32`, or a literal. Assumes nothing.
-use Rattle.std.proofs.Common.{◌≡◌, ℕ, zero, suc, ◌+◌, ◌-◌, ◌*◌, ◌/◌, ◌^◌, ◌<◌, ◌≤◌, min, Bool, true, false, cond, not, ◌||◌, T, ℤ, pos, neg_ℤ, nat_abs, sym, refl, ap, ◌∙◌, subst, true≢false, zero-le, le_trans, le_of_eq, le_of_suc-le-suc, lt_of_le_of_lt, lt-suc_self, suc-mul, div-lt_iff_lt-mul, lt_of_not-le, mul-one, arith, lit<, lit≤, le→leb, lt→ltb, T_not, pow_pos, w32, to_z, of_z}
+use Rattle.std.proofs.Common.{◌≡◌, ℕ, zero, suc, ◌+◌, ◌-◌, ◌*◌, ◌/◌, ◌^◌, ◌<◌, ◌≤◌, min, Bool, true, false, cond, not, ◌||◌, T, ℤ, pos, negsuc, neg_ℤ, nat_abs, sym, refl, ap, ◌∙◌, subst, true≢false, zero-le, le_trans, le_of_eq, le_of_suc-le-suc, lt_of_le_of_lt, lt-suc_self, suc-mul, div-lt_iff_lt-mul, lt_of_not-le, mul-one, arith, lit<, lit≤, le→leb, lt→ltb, T_not, pow_pos, w32, to_z, of_z}
 use lib.Arith.{le→nltb}
 use lib.Signed.{mag, non_neg}
 use mir.ValLaws.{to_z-of_z}
@@ -212,3 +212,9 @@ min_sized n a b p q = pick (Sized n) (lt b a) b (cond (ne a a) b a) q (pick (Siz
 
 pub max_sized : (n : ℕ) (a b : Float) → Sized n a → Sized n b → Sized n (max_of a b)
 max_sized n a b p q = pick (Sized n) (lt a b) b (cond (ne a a) b a) q (pick (Sized n) (ne a a) b a q p)
+
+-- an integer up to 2 ^ 24 either way is an f32: what `z as f32` asks
+pub in_float_signed : (z : ℤ) → nat_abs z ≤ 2 ^ 24 → T (in_float binary32 z)
+unfolding in_float
+in_float_signed (pos k) h = le→leb k (2 ^ 24) h
+in_float_signed (negsuc k) h = lt→ltb k (2 ^ 24) h

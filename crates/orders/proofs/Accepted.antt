@@ -27,7 +27,7 @@ use Rattle.orders.specs.Orders.{push, pop, fill, item, head, as_sheet}
 -- ---- the items
 
 -- what holds of the three items holds of each
-by_item : (P : List ℕ → Type 0) → P push → P pop → P fill → (kind : ℕ) → P (item kind)
+pub by_item : (P : List ℕ → Type 0) → P push → P pop → P fill → (kind : ℕ) → P (item kind)
 unfolding item
 by_item P a b c kind =
     split (eqb kind 1) (λ t. P (cond t push (cond (eqb kind 2) pop fill))) (λ e. a)
@@ -51,7 +51,7 @@ item_ok depth h = by_item (λ b. item_number b 0 (length b) depth ≡ 0) (push_o
 item_depth : (depth kind : ℕ) → depth_after (kind_at (item kind) 0) depth ≤ depth + 1
 item_depth depth = by_item (λ b. depth_after (kind_at b 0) depth ≤ depth + 1) (omega arith) (omega arith) (omega arith)
 
-item_long : (kind : ℕ) → (4 ≤ length (item kind)) × (length (item kind) ≤ 52)
+pub item_long : (kind : ℕ) → (4 ≤ length (item kind)) × (length (item kind) ≤ 52)
 item_long = by_item (λ b. (4 ≤ length b) × (length b ≤ 52)) (omega arith) (omega arith) (omega arith)
 
 -- no item needs scratch

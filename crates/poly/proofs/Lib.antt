@@ -1,4 +1,5 @@
 -- Laws that more than one proof cites.
+pub mod Words
 pub mod Turns
 pub mod Needs
 pub mod Spans

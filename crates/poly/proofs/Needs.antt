@@ -13,8 +13,14 @@ use Rattle.geom.proofs.Bools.{and_left, split}
 use Rattle.geom.proofs.Boxes.{meet_empty}
 use Rattle.draw.specs.Areas.{area, clip_to, drawn_in}
 use Rattle.draw.proofs.Rows.{none_across}
+use Rattle.accum.specs.Rooms.{Room}
 use Rattle.bounds.specs.Bounds.{point_count, poly_box, painted, reach_of, need_of}
+use Rattle.bounds.specs.Plans.{Near}
+use Rattle.bounds.specs.declared.PolyBox.{PolyBox}
 use Rattle.poly.specs.Poly.{poly_reach, poly_need, cleared}
+
+pub box_room : (g : PolyBox) {n : ℕ} → Near g → n ≡ need_of g → Room g.bw g.bh n
+box_room g r e = record { wide = r.wide; high = r.high; words = omega (arith, e) }
 
 module _ (pts : List Float) where
   -- ---- by the need: a polygon that is painted needs two words and more

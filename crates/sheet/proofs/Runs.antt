@@ -56,7 +56,7 @@ module _ (s : List ℕ) (left k : ℕ) where
   unfolding pairs_from
   pairs_done at l = rw l
 
-  items_stop : (depth : ℕ) → 0 < left → (number_at s k depth ≡ 0 → ⊥) → items_from s left k depth ≡ verdict (number_at s k depth) (k + 1)
+  pub items_stop : (depth : ℕ) → 0 < left → (number_at s k depth ≡ 0 → ⊥) → items_from s left k depth ≡ verdict (number_at s k depth) (k + 1)
   unfolding items_from
   items_stop depth h e = go left h
     where

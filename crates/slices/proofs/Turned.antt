@@ -1,6 +1,6 @@
 -- A slice as a loop leaves it after its first elements: the answers so far, then what stood there. Assumes nothing.
 use Rattle.std.proofs.Common.{◌≡◌, refl, ap, ◌∙◌, List, [], ◌∷◌, map, ℕ, zero, suc, ◌+◌, ◌<◌, add-one, not-suc-le-zero, arith, length, get_or, set}
-use borrow.Author.Tests.{eq-eqb}
+use borrow.Author.Tests.{eq-eqb, ne_eqb}
 use Rattle.slices.specs.Each.{each}
 
 module _ {ℓ ℓ'} {A : Type ℓ} {B : Type ℓ'} (f : A → B) where
@@ -15,12 +15,19 @@ module _ {ℓ ℓ'} {A : Type ℓ} {B : Type ℓ'} (f : A → B) where
   turned_none xs out = refl
 
   -- what stands at i is still the old element
-  turned_at : (i : ℕ) (xs : List A) (out : List B) (d : B) → get_or (turned i xs out) i d ≡ get_or out i d
+  pub turned_at : (i : ℕ) (xs : List A) (out : List B) (d : B) → get_or (turned i xs out) i d ≡ get_or out i d
   unfolding turned
   turned_at zero xs out d = refl
   turned_at (suc i) [] out d = refl
   turned_at (suc i) (x ∷ xs) [] d = refl
   turned_at (suc i) (x ∷ xs) (o ∷ out) d = turned_at i xs out d
+
+  pub turned_length : (i : ℕ) (xs : List A) (out : List B) → length (turned i xs out) ≡ length out
+  unfolding turned
+  turned_length zero xs out = refl
+  turned_length (suc i) [] out = refl
+  turned_length (suc i) (x ∷ xs) [] = refl
+  turned_length (suc i) (x ∷ xs) (o ∷ out) = ap suc (turned_length i xs out)
 
   one_more : (i : ℕ) (xs : List A) (out : List B) (d : A) → i < length xs → set (turned i xs out) i (f (get_or xs i d)) ≡ turned (suc i) xs out
   unfolding turned
@@ -47,6 +54,10 @@ module _ {ℓ ℓ'} {A : Type ℓ} {B : Type ℓ'} (f : A → B) where
 
   pub turned_each : {i : ℕ} {now : List B} (xs : List A) (old : List B) → now ≡ turned i xs old → i ≡ length xs → length xs ≡ length old → now ≡ each f xs old
   turned_each {i} xs old e h l = rw (eq-eqb (length xs) (length old) l) (turned_all xs old e h l)
+
+  -- lists of two lengths: nothing is turned
+  pub none_each : (xs : List A) (old : List B) → (length xs ≡ length old → ⊥) → old ≡ each f xs old
+  none_each xs old h = rw (ne_eqb (length xs) (length old) h)
 
 -- the same in place, where the element at i is still the old one
 pub turned_in_place {ℓ} : {A : Type ℓ} (f : A → A) {i : ℕ} {now : List A} {v : A} (xs : List A) (d : A) → now ≡ turned f i xs xs → i < length xs → v ≡ f (get_or now i d)

@@ -176,6 +176,9 @@ pub upto_none : (r width : Float) → BlankUpto r width (of_bits binary32 0x7FC0
 upto_none r width = λ d g z h. absurd (nan_high d (subst (λ (y : Float). T (le d y)) no_number (passed h)))
 
 -- the coverage of a point by the sum of the squares of its distances across and down
+pub far_blank : (r width k x y : Float) → BlankFrom r width k → (k ≤ᶠ x *ᶠ x +ᶠ y *ᶠ y) ≡ true → 0 ≡ band_cover (sqrt_of (x *ᶠ x +ᶠ y *ᶠ y) -ᶠ r) width
+far_blank r width k x y b h = sym (b (x *ᶠ x +ᶠ y *ᶠ y) (add-fits binary32 _ _) h)
+
 pub near_blank : (r width k x y : Float) → BlankUpto r width k → (x *ᶠ x +ᶠ y *ᶠ y ≤ᶠ k) ≡ true → 0 ≡ band_cover (sqrt_of (x *ᶠ x +ᶠ y *ᶠ y) -ᶠ r) width
 unfolding of_bits
 near_blank r width k x y b h = let d = x *ᶠ x +ᶠ y *ᶠ y in sym (b d (add-fits binary32 _ _) (is_true (le z0 d) (squares x y k (passed h))) h)

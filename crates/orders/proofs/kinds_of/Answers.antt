@@ -5,7 +5,7 @@ use lib.Seq.{drop-length}
 use Rattle.orders.specs.declared.Kind.{Kind}
 use Rattle.orders.specs.Kinds.{digit_of, kinds_in}
 use Rattle.orders.proofs.Digits.{kinds_none, six_digits}
-use Rattle.orders.proofs.Turns.{digits_left, less_left, kinds_turn}
+use Rattle.orders.proofs.Turns.{digits_left, less_left, kinds_next}
 use Rattle.orders.proofs.kinds_of.Goals as goal
 
 -- nothing is set yet
@@ -26,7 +26,7 @@ pub loop-rest-preserved : goal.loop-rest-preserved
 loop-rest-preserved c =
     let l = c.loop-rest in
     let t = c.loop-rest-test.true in (
-      kinds_turn l.kinds l.from l.rest _ c.of.ensures t (digits_left l.from l.rest t l.invariant.2) (omega arith) ∙ l.invariant.0,
+      kinds_next l.kinds l.from l.rest _ c.of.ensures t (digits_left l.from l.rest t l.invariant.2) (omega arith) ∙ l.invariant.0,
       omega arith,
       less_left l.from l.rest t l.invariant.2,
     )

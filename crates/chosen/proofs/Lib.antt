@@ -1,0 +1,2 @@
+-- The laws of chosen items that belong to no one function. Assumes nothing.
+pub mod Turns
