@@ -80,6 +80,18 @@ TakesPixels pre s = (x p : ℕ) → s.x0 ≤ x → x < s.x1 → p < 2 ^ 32 → p
 abbrev pub Inks : (ℕ → ℕ → Inked → Type 0) → Span → (ℕ → ℕ → ℕ → ℕ) → Type 0
 Inks post s ink = (x p : ℕ) (q : Inked) → s.x0 ≤ x → x < s.x1 → p < 2 ^ 32 → post x p q → q ≡ inked_of p (ink x s.y p)
 
+-- the same of two closures, of which one gives the coverage of a column, and the other, called where that is not 0, is told of it
+abbrev pub TakesColumns : (ℕ → Type 0) → Span → Type 0
+TakesColumns pre s = (x : ℕ) → s.x0 ≤ x → x < s.x1 → pre x
+
+abbrev pub TakesCovered : (ℕ → ℕ → Type 0) → (ℕ → ℕ → ℕ → Type 0) → Span → Type 0
+TakesCovered covers pre s = (x p cv : ℕ) → s.x0 ≤ x → x < s.x1 → p < 2 ^ 32 → covers x cv → pre x p cv
+
+-- `ink` leaves the pixels of a column of coverage 0
+pub record InksCovered (covers : ℕ → ℕ → Type 0) (post : ℕ → ℕ → ℕ → Inked → Type 0) (s : Span) (ink : ℕ → ℕ → ℕ → ℕ) : Type 0 where
+  pub keeps : (x p : ℕ) → s.x0 ≤ x → x < s.x1 → covers x 0 → p ≡ ink x s.y p
+  pub inks : (x p cv : ℕ) (q : Inked) → s.x0 ≤ x → x < s.x1 → p < 2 ^ 32 → covers x cv → post x p cv q → q ≡ inked_of p (ink x s.y p)
+
 -- the span of row y of an area
 abbrev pub row_of : ℕ → Area → ℕ → Span
 row_of pitch b y = record { pitch = pitch; y = y; x0 = b.x0; x1 = b.x1 }

@@ -3,7 +3,8 @@
 
 ghost use Rattle.std.specs.Prelude.{◌≡◌, ◌≤◌, ◌<◌, ℕ, length};
 ghost use Rattle.geom.specs.Refusals.{number_of};
-ghost use Rattle.draw.specs.Areas.{area_of, clip_to, SpanFits, DrewSpan, TakesPixels, Inks, AreaFits, DrewIn, TakesRows, DrawsRows};
+ghost use Rattle.draw.specs.Areas.{area_of, clip_to, SpanFits, DrewSpan, TakesPixels, Inks, TakesColumns, TakesCovered, InksCovered};
+ghost use Rattle.draw.specs.Areas.{AreaFits, DrewIn, TakesRows, DrawsRows};
 ghost use Rattle.draw.specs.Held.{Holds};
 ghost use Rattle.draw.specs.Frame.{pitch_number, frame_number};
 
@@ -85,6 +86,17 @@ pub fn check_frame(w: usize, h: usize, pitch: usize, n: usize) -> Result<(), Ref
     ensure(n == pitch * h, Refusal::Pixels)
 }
 
+// Fills the places from x0 up to x1 of a row of numbers by a function, which is told of the place.
+pub fn fill_in<const N: usize, F: Fn(usize) -> u32>(row: &mut [u32; N], x0: usize, x1: usize, f: F)
+    requires places { (x0 ≤ x1) × (x1 ≤ N) }
+    requires callable { (x : ℕ) → x0 ≤ x → x < x1 → F.pre f x }
+    ensures { (g : ℕ → ℕ) → ((x v : ℕ) → x0 ≤ x → x < x1 → F.post f x v → v ≡ g x) → Holds g x0 x1 row.new }
+{
+    for x in x0..x1 {
+        row[x] = f(x);
+    }
+}
+
 // Numbers of which the places from x0 up to x1 are filled by a function, which is told of the place.
 pub fn filled<const N: usize, F: Fn(usize) -> u32>(x0: usize, x1: usize, f: F) -> [u32; N]
     requires places { (x0 ≤ x1) × (x1 ≤ N) }
@@ -92,9 +104,7 @@ pub fn filled<const N: usize, F: Fn(usize) -> u32>(x0: usize, x1: usize, f: F) -
     ensures { (g : ℕ → ℕ) → ((x v : ℕ) → x0 ≤ x → x < x1 → F.post f x v → v ≡ g x) → Holds g x0 x1 result }
 {
     let mut row = [0; N];
-    for x in x0..x1 {
-        row[x] = f(x);
-    }
+    fill_in(&mut row, x0, x1, f);
     row
 }
 
@@ -113,6 +123,34 @@ impl Span {
             let q = ink(x, px[i]);
             px[i] = q.value;
             n += q.altered as u32;
+        }
+        n
+    }
+
+    // The same by the coverage of each column, of which the ink is told: where that is 0 the pixel is neither read nor stored.
+    pub fn draw_covered<C: Fn(usize) -> u32, F: Fn(usize, u32, u32) -> Inked>(
+        self,
+        px: &mut [u32],
+        cover: C,
+        ink: F,
+    ) -> u32
+        requires span_fits { SpanFits self (length px.old) }
+        requires columns { TakesColumns (C.pre cover) self }
+        requires callable { TakesCovered (C.post cover) (F.pre ink) self }
+        ensures { (f : ℕ → ℕ → ℕ → ℕ) → InksCovered (C.post cover) (F.post ink) self f → DrewSpan self f px.old result px.new }
+    {
+        let Span { pitch, y, x0, x1 } = self;
+        let row = y * pitch;
+        let mut n = 0;
+        for x in x0..x1 {
+            let cv = cover(x);
+            if cv == 0 {
+                continue;
+            }
+            let i = row + x;
+            let inked = ink(x, px[i], cv);
+            px[i] = inked.value;
+            n += inked.altered as u32;
         }
         n
     }

@@ -7,7 +7,6 @@ ghost use Rattle.mathf.specs.F32.{f0};
 ghost use Rattle.mathf.specs.Convert.{to_i32};
 ghost use Rattle.geom.specs.Int.{up};
 ghost use Rattle.color.specs.Colours.{pix_of};
-ghost use Rattle.color.specs.Inks.{inked_of, over_c};
 ghost use Rattle.draw.specs.Draw.{drawn};
 ghost use Rattle.draw.specs.Areas.{SpanFits, AreaFits, DrewSpan, DrewIn};
 ghost use Rattle.gfx.specs.Calls.{ShapeCalled, px_number, counted_of};
@@ -19,7 +18,7 @@ ghost use Rattle.fill.specs.Fill.{Filled, rrect_floats, rect_floats, circle_floa
 ghost use Rattle.paints.specs.Paints.{circle_rect};
 ghost use Rattle.fill.specs.Rows.{ends_of, clamped_of, Cuts, past_of, LevelOf};
 
-use color::{Color, Inked, blend_c, over, put};
+use color::{Color, blend_c, over, put};
 use draw::{Area, Span, clipped};
 use geom::checks::Refusal;
 use geom::{IRect, Rect, float_ok, nat_of};
@@ -63,17 +62,6 @@ fn past(p: f32, c: f32, h: f32, r: f32) -> f32
     ensures { result ≡ past_of p c h r }
 {
     mathf::fabs(p - c) - (h - r)
-}
-
-// The colour of a paint at a point; a plain colour costs no call.
-#[tactic(auto, unfolding(paints::specs::Paints::paint_at))]
-fn colour_at(paint: Paint, xc: f32, yc: f32) -> Color
-    ensures { result ≡ paint_at paint xc yc }
-{
-    match paint {
-        Paint::Solid(c) => c,
-        _ => paint.at(xc, yc),
-    }
 }
 
 // Columns of a row: where its left rim ends, and where its right rim starts.
@@ -186,28 +174,22 @@ impl Round {
         let qx = past(xc, rect.cx(), rect.w * 0.5, self.edge.r);
         self.edge.beside(qx, l.qy, l.level)
     }
-
-    // A pixel around xc and yc by coverage, from its value p: a root is taken only near the edge.
-    #[tactic(auto, using(color::proofs::Overs::over_c_none))]
-    fn rim_pixel(self, l: Level, paint: Paint, xc: f32, yc: f32, p: u32) -> Inked
-        requires { LevelOf self.rect self.edge.r yc l }
-        ensures { result ≡ inked_of p (over_c p (paint_at paint xc yc) (cover_of self.rect self.edge.r xc yc)) }
-    {
-        let cv = self.cover(l, xc);
-        if cv == 0 {
-            return put(p, p);
-        }
-        blend_c(p, colour_at(paint, xc, yc), cv)
-    }
 }
 
-// Columns of a row by coverage.
+// Columns of a row by coverage: a root is taken only near the edge, and where the coverage is 0 no pixel is read or stored. A
+// plain colour costs no call.
 fn rim(px: &mut [u32], row: Span, s: Round, l: Level, paint: Paint) -> u32
     requires { SpanFits row (length px.old) × LevelOf s.rect s.edge.r (centre_of row.y) l }
     ensures { DrewSpan row (rim_ink s.rect s.edge.r paint) px.old result px.new }
 {
     let yc = centre(row.y as u16);
-    row.draw(px, |x, p| s.rim_pixel(l, paint, centre(x as u16), yc, p))
+    let cover = |x| s.cover(l, centre(x as u16));
+    match paint {
+        Paint::Solid(c) => row.draw_covered(px, cover, |_, p, cv| blend_c(p, c, cv)),
+        _ => row.draw_covered(px, cover, |x, p, cv| {
+            blend_c(p, paint.at(centre(x as u16), yc), cv)
+        }),
+    }
 }
 
 // Columns of a row set to one value.

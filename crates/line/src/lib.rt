@@ -6,7 +6,6 @@ ghost use Rattle.std.specs.Prelude.{◌≡◌, ◌/◌, ◌<◌, ◌≤◌, leng
 ghost use Rattle.geom.specs.declared.IRect.{IRect};
 ghost use Rattle.geom.specs.Plane.{float_ok};
 ghost use Rattle.color.specs.declared.Color.{Color};
-ghost use Rattle.color.specs.Inks.{inked_of, over_c};
 ghost use Rattle.draw.specs.Draw.{drawn};
 ghost use Rattle.draw.specs.Parts.{reach_all};
 ghost use Rattle.draw.specs.Areas.{clip_to, SpanFits, AreaFits, Drew, DrewSpan};
@@ -16,7 +15,7 @@ ghost use Rattle.paints.specs.Edges.{edge_of};
 ghost use Rattle.line.specs.Lines.{line_reach, segment_of, cover_of, segment_ink, line_ink, line_ok};
 ghost use Rattle.line.specs.Polylines.{point_at, polylined, polyline_steps, chain_of, DrewLines};
 
-use color::{Color, Inked, blend_c, put};
+use color::{Color, blend_c};
 use draw::{Span, clipped};
 use geom::checks::Refusal;
 use geom::{IRect, Pt, Rect, float_ok, join};
@@ -94,27 +93,19 @@ impl Edged {
         let py = a.y + s.dy * t - yc;
         self.edge.cover(px, py)
     }
-
-    // A pixel under a colour by its coverage, from its value p.
-    #[tactic(auto, using(color::proofs::Overs::over_c_none))]
-    fn pixel(self, color: Color, xc: f32, yc: f32, p: u32) -> Inked
-        ensures { result ≡ inked_of p (over_c p color (cover_of self.segment xc yc)) }
-    {
-        let cv = self.cover(xc, yc);
-        if cv == 0 {
-            return put(p, p);
-        }
-        blend_c(p, color, cv)
-    }
 }
 
-// A part of a row.
+// A part of a row: where the line doesn't reach, no pixel is read or stored.
 fn segment_row(px: &mut [u32], row: Span, s: Edged, color: Color) -> u32
     requires { SpanFits row (length px.old) }
     ensures { DrewSpan row (segment_ink s.segment color) px.old result px.new }
 {
     let yc = centre(row.y as u16);
-    row.draw(px, |x, p| s.pixel(color, centre(x as u16), yc, p))
+    row.draw_covered(
+        px,
+        |x| s.cover(centre(x as u16), yc),
+        |_, p, cv| blend_c(p, color, cv),
+    )
 }
 
 // One line under a clip within px: what its rows share is worked out first, where it has rows.

@@ -1,11 +1,10 @@
--- `draw::filled` meets its contract. The places before x are filled. Assumes nothing.
+-- `draw::fill_in` meets its contract. The places before x are filled. Assumes nothing.
 use native.Mathlib.Omega.{arith}
-use Rattle.std.proofs.lemmas.List.{length-replicate}
 use Rattle.draw.proofs.Held.{held_start, held_next}
-use Rattle.draw.proofs.filled.Goals as goal
+use Rattle.draw.proofs.fill_in.Goals as goal
 
 pub loop-x-init : goal.loop-x-init
-loop-x-init g c = λ h a. held_start (length-replicate g.row.N 0) c.requires.places.0
+loop-x-init g c = λ h a. held_start (omega arith) c.requires.places.0
 
 pub loop-x-preserved : goal.loop-x-preserved
 loop-x-preserved g c = λ h a.

@@ -1,7 +1,7 @@
--- `draw::filled` meets its contract. The places before x are filled. Assumes nothing.
+-- `draw::fill_in` meets its contract. The places before x are filled. Assumes nothing.
 use Rattle.std.proofs.Common.{◌≡◌, ◌≤◌, ◌<◌, ℕ}
 use Rattle.draw.proofs.Held.{Filling}
-use Rattle.draw.proofs.filled.Given as goal
+use Rattle.draw.proofs.fill_in.Given as goal
 
 abbrev pub invariant-loop-x : goal.invariant-loop-x
 invariant-loop-x g l =
