@@ -15,7 +15,7 @@ ghost use Rattle.stroke.specs.Stroke.{ring_ok};
 ghost use Rattle.stroke.specs.Rows.{BlankFrom, BlankUpto, width_of, GapOf, RowGap, LevelIn, LevelPart, column_cover};
 
 use color::{Color, blend_c, blend_c_wide};
-use draw::{Area, Span, clipped, filled};
+use draw::{Area, Span, clipped, fill_in, filled};
 use geom::checks::Refusal;
 use geom::{IRect, Rect, floats_ok, nat_of};
 use gfx::{Canvas, Counted};
@@ -227,12 +227,12 @@ impl Level {
     }
 
     // A part of such a row.
-    fn side_span(self, px: &mut [u32], cols: &[u32; 2048], row: Span) -> u32
+    fn side_span(&self, px: &mut [u32], cols: &[u32; 2048], row: Span) -> u32
         requires row_fits { SpanFits row (length px.old) }
-        requires at { self.yc ≡ centre_of row.y }
-        requires low { (self.qy ≤ᶠ f0) ≡ true }
-        requires holds { Holds (column_cover self.o.s self.o.width) row.x0 row.x1 cols.now }
-        ensures { DrewSpan row (band_ink self.o.s self.o.width self.o.c) px.old result px.new }
+        requires at { self.now.yc ≡ centre_of row.y }
+        requires low { (self.now.qy ≤ᶠ f0) ≡ true }
+        requires holds { Holds (column_cover self.now.o.s self.now.o.width) row.x0 row.x1 cols.now }
+        ensures { DrewSpan row (band_ink self.now.o.s self.now.o.width self.now.o.c) px.old result px.new }
     {
         row.draw(
             px,
@@ -256,12 +256,15 @@ impl Level {
         row.draw(px, |x, p| blend_c_wide(p, self.o.c, covers[x - row.x0]))
     }
 
-    // A part of such a row.
-    fn corner_span(self, px: &mut [u32], row: Span) -> u32
+    // A part of such a row. Without a column it asks for nothing that its columns share.
+    fn corner_span(&self, px: &mut [u32], row: Span) -> u32
         requires row_fits { SpanFits row (length px.old) }
-        requires at { self.yc ≡ centre_of row.y }
-        ensures { DrewSpan row (band_ink self.o.s self.o.width self.o.c) px.old result px.new }
+        requires at { self.now.yc ≡ centre_of row.y }
+        ensures { DrewSpan row (band_ink self.now.o.s self.now.o.width self.now.o.c) px.old result px.new }
     {
+        if row.x0 >= row.x1 {
+            return 0;
+        }
         let mut n = 0;
         for x in (row.x0..row.x1).step_by(128) {
             let part = Span {
@@ -275,11 +278,12 @@ impl Level {
     }
 
     // A part of a row.
-    fn band_span(self, px: &mut [u32], cols: &[u32; 2048], row: Span) -> u32
+    #[inline(always)]
+    fn band_span(&self, px: &mut [u32], cols: &[u32; 2048], row: Span) -> u32
         requires row_fits { SpanFits row (length px.old) }
-        requires at { self.yc ≡ centre_of row.y }
-        requires holds { Holds (column_cover self.o.s self.o.width) row.x0 row.x1 cols.now }
-        ensures { DrewSpan row (band_ink self.o.s self.o.width self.o.c) px.old result px.new }
+        requires at { self.now.yc ≡ centre_of row.y }
+        requires holds { Holds (column_cover self.now.o.s self.now.o.width) row.x0 row.x1 cols.now }
+        ensures { DrewSpan row (band_ink self.now.o.s self.now.o.width self.now.o.c) px.old result px.new }
     {
         if self.qy <= 0.0 {
             self.side_span(px, cols, row)
@@ -289,11 +293,11 @@ impl Level {
     }
 
     // A row where it is full: beside no corner it has one coverage.
-    fn full_span(self, px: &mut [u32], row: Span) -> u32
+    fn full_span(&self, px: &mut [u32], row: Span) -> u32
         requires row_fits { SpanFits row (length px.old) }
-        requires at { self.yc ≡ centre_of row.y }
-        requires part { LevelPart self.o.s row.x0 row.x1 self.o.level }
-        ensures { DrewSpan row (band_ink self.o.s self.o.width self.o.c) px.old result px.new }
+        requires at { self.now.yc ≡ centre_of row.y }
+        requires part { LevelPart self.now.o.s row.x0 row.x1 self.now.o.level }
+        ensures { DrewSpan row (band_ink self.now.o.s self.now.o.width self.now.o.c) px.old result px.new }
     {
         if self.qy >= 0.0 {
             let Columns { from, upto } = self.o.level;
@@ -312,13 +316,13 @@ impl Level {
     }
 
     // The two sides of a row, with a gap between them.
-    fn side_spans(self, px: &mut [u32], cols: &[u32; 2048], row: Span, g: Columns) -> u32
+    fn side_spans(&self, px: &mut [u32], cols: &[u32; 2048], row: Span, g: Columns) -> u32
         requires row_fits { SpanFits row (length px.old) }
-        requires at { self.yc ≡ centre_of row.y }
-        requires gap { RowGap self.o.s self.o.width (centre_of row.y) g }
-        requires not_full { full_row self.o.s (self.o.width +ᶠ f1) (centre_of row.y) ≡ false }
-        requires holds { Holds (column_cover self.o.s self.o.width) row.x0 row.x1 cols.now }
-        ensures { DrewSpan row (outline_ink self.o.s self.o.width self.o.c) px.old result px.new }
+        requires at { self.now.yc ≡ centre_of row.y }
+        requires gap { RowGap self.now.o.s self.now.o.width (centre_of row.y) g }
+        requires not_full { full_row self.now.o.s (self.now.o.width +ᶠ f1) (centre_of row.y) ≡ false }
+        requires holds { Holds (column_cover self.now.o.s self.now.o.width) row.x0 row.x1 cols.now }
+        ensures { DrewSpan row (outline_ink self.now.o.s self.now.o.width self.now.o.c) px.old result px.new }
     {
         let a = g.from.min(row.x1).max(row.x0);
         let b = g.upto.min(row.x1).max(a);
@@ -393,7 +397,8 @@ fn outline_area(px: &mut [u32], pitch: usize, b: Area, s: Rounded, width: f32, c
         far: blank_from(s.r),
         near: blank_upto(s.r, width),
     };
-    let cols = filled(b.x0, b.x1, |x| column_cover(s, width, x));
+    let mut cols = [0; 2048];
+    fill_in(&mut cols, b.x0, b.x1, |x| column_cover(s, width, x));
     b.draw(px, pitch, |px, row| o.draw_row(px, &cols, row))
 }
 

@@ -10,11 +10,11 @@ use Rattle.stroke.proofs.Level.full_span.Goals.{After-corner_span-right}
 use Rattle.stroke.proofs.Level.full_span.Goals as goal
 
 -- the columns beside no corner are drawn
-middle : (c : After-corner_span-right) → let o = c.args.self.o in let row = c.args.row in
+middle : (c : After-corner_span-right) → let o = c.args.self.now.o in let row = c.args.row in
     DrewRow row.pitch row.y o.level.from o.level.upto (band_ink o.s o.width o.c) c.corner_span-left.new.px c.draw-between.result c.draw-between.new.px
 unfolding band_ink
 middle c =
-    let l = c.args.self in
+    let l = c.args.self.now in
     c.draw-between.ensures (band_ink l.o.s l.o.width l.o.c)
     (λ x p q h u w e. let k = level_at l _ _ x c.requires.part.level c.if-self.true h u in search rules)
 

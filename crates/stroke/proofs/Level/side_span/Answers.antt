@@ -7,5 +7,5 @@ use Rattle.stroke.proofs.Level.side_span.Goals as goal
 pub returns : goal.returns
 unfolding band_ink Holds
 returns c =
-    let o = c.args.self.o in
+    let o = c.args.self.now.o in
     c.draw.ensures (band_ink o.s o.width o.c) (λ x p q a b w e. let k = c.requires.holds x a b in search rules)
