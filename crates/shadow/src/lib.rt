@@ -96,7 +96,7 @@ fn corner_upto(s: Rounded) -> usize
 }
 
 // What every row of a shadow asks: its rectangle, the blur, the levels to a pixel, the squared distance of a corner's centre
-// where it has faded, the colour, and the table of its levels.
+// where it has faded, the colour, and the table of its levels. Rows lend it: by value it would be stored anew for each part.
 #[derive(Clone, Copy)]
 struct Shade<'a> {
     s: Rounded,
@@ -179,7 +179,8 @@ impl Shade<'_> {
         if skip & full { 0 } else { v }
     }
 
-    // A part of a row at one alpha.
+    // A part of a row at one alpha. Inlined, since the part may be a pixel or two, which take less than a call.
+    #[inline(always)]
     fn flat_span(self, px: &mut [u32], row: Span, v: u32) -> u32
         requires { SpanFits row (length px.old) }
         ensures { DrewSpan row (flat_ink self.entry.c v) px.old result px.new }
@@ -188,15 +189,17 @@ impl Shade<'_> {
     }
 
     // A part of a straight row beside its middle; `v` is the alpha by the row's own distance.
-    fn straight_span(self, px: &mut [u32], cols: &[u32; 2048], row: Span, sdy: f32, v: u32) -> u32
+    fn straight_span(&self, px: &mut [u32], cols: &[u32; 2048], row: Span, sdy: f32, v: u32) -> u32
         requires row_fits { SpanFits row (length px.old) }
-        requires holds { Holds (column_alpha self) row.x0 row.x1 cols.now }
-        requires v_value { v ≡ alpha_of self.c.a self.blur sdy }
-        ensures { DrewSpan row (straight_ink self.entry sdy) px.old result px.new }
+        requires holds { Holds (column_alpha self.now) row.x0 row.x1 cols.now }
+        requires v_value { v ≡ alpha_of self.now.c.a self.now.blur sdy }
+        ensures { DrewSpan row (straight_ink self.now sdy) px.old result px.new }
     {
+        // A copy, so that the compiler sees that no store into px alters it: else each pixel reads it anew.
+        let h = *self;
         row.draw(
             px,
-            |x, p| over_wide(p, self.c, self.straight_side(sdy, x, cols[x], v)),
+            |x, p| over_wide(p, h.c, h.straight_side(sdy, x, cols[x], v)),
         )
     }
 
@@ -219,9 +222,9 @@ impl Shade<'_> {
     }
 
     // A part of any other row, beside its middle.
-    fn corner_span(self, px: &mut [u32], row: Span, qy: f32) -> u32
+    fn corner_span(&self, px: &mut [u32], row: Span, qy: f32) -> u32
         requires { SpanFits row (length px.old) }
-        ensures { DrewSpan row (corner_ink self.entry qy) px.old result px.new }
+        ensures { DrewSpan row (corner_ink self.now qy) px.old result px.new }
     {
         let mut n = 0;
         for x in (row.x0..row.x1).step_by(128) {
@@ -240,7 +243,7 @@ impl Shade<'_> {
 
     // A row where it is straight.
     fn straight_row(
-        self,
+        &self,
         px: &mut [u32],
         cols: &[u32; 2048],
         row: Span,
@@ -248,8 +251,8 @@ impl Shade<'_> {
         sdy: f32,
     ) -> u32
         requires row_fits { SpanFits row (length px.old) }
-        requires holds { Holds (column_alpha self) row.x0 row.x1 cols.now }
-        ensures { DrewSpan row (straight_row_ink self.entry skip sdy) px.old result px.new }
+        requires holds { Holds (column_alpha self.now) row.x0 row.x1 cols.now }
+        ensures { DrewSpan row (straight_row_ink self.now skip sdy) px.old result px.new }
     {
         let a = straight_from(self.s, self.blur).min(row.x1).max(row.x0);
         let b = straight_upto(self.s, self.blur).min(row.x1).max(a);
@@ -270,9 +273,9 @@ impl Shade<'_> {
     }
 
     // A row where it is not.
-    fn corner_row(self, px: &mut [u32], row: Span, qy: f32) -> u32
+    fn corner_row(&self, px: &mut [u32], row: Span, qy: f32) -> u32
         requires { SpanFits row (length px.old) }
-        ensures { DrewSpan row (corner_row_ink self.entry qy) px.old result px.new }
+        ensures { DrewSpan row (corner_row_ink self.now qy) px.old result px.new }
     {
         let a = corner_from(self.s).min(row.x1).max(row.x0);
         let b = corner_upto(self.s).min(row.x1).max(a);
@@ -292,10 +295,10 @@ impl Shade<'_> {
     }
 
     // Any row.
-    fn shade_row(self, px: &mut [u32], cols: &[u32; 2048], row: Span, skip: bool) -> u32
+    fn shade_row(&self, px: &mut [u32], cols: &[u32; 2048], row: Span, skip: bool) -> u32
         requires row_fits { SpanFits row (length px.old) }
-        requires holds { Holds (column_alpha self) row.x0 row.x1 cols.now }
-        ensures { DrewSpan row (shade_ink self.entry.s self.entry.blur self.entry.c skip) px.old result px.new }
+        requires holds { Holds (column_alpha self.now) row.x0 row.x1 cols.now }
+        ensures { DrewSpan row (shade_ink self.now.s self.now.blur self.now.c skip) px.old result px.new }
     {
         let dy = mathf::fabs(centre(row.y as u16) - self.s.cy);
         let qy = dy - (self.s.hh - self.s.r);
@@ -329,9 +332,6 @@ fn shade_area(
     requires { AreaFits pitch b (length px.old) }
     ensures { DrewIn pitch b (shade_ink s blur c skip) px.old result px.new }
 {
-    if b.y1 <= b.y0 {
-        return 0;
-    }
     let lut = falloff(c.a);
     let scale = 96.0 / (2.0 * blur);
     let far = far_of(s.r, blur, scale);
@@ -362,6 +362,9 @@ fn try_shadow(
 {
     canvas.check_shape(px.len(), rect.in_range() & floats_ok(r, blur))?;
     let b = clipped(shadow_reach(rect, blur, color), canvas.clip);
+    if b.y1 <= b.y0 {
+        return Ok(0);
+    }
     Ok(shade_area(px, canvas.pitch, b, Rounded::of(rect, r), blur, color, skip) as u64)
 }
 

@@ -8,7 +8,7 @@ use Rattle.shadow.proofs.Shade.corner_row.Goals as goal
 pub returns : goal.returns
 returns c =
     let a = c.args in
-    let h = a.self in
+    let h = a.self.now in
     let r = a.row in
     parts (corner_row_ink h a.qy) (corner_ink h a.qy) (flat_ink h.c c.alpha_of-v.result)
     (corner_from h.s) (corner_upto h.s) r.y

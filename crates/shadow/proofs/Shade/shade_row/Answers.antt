@@ -10,7 +10,7 @@ returns-then-qy c =
     let r = a.row in
     let e = rw (c.fabs-dy.ensures, c.centre.ensures) at c.if-qy.true in
     drew_as (rw (c.fabs-dy.ensures, c.centre.ensures) at c.straight_row.ensures)
-    (row_same r.pitch _ _ _ r.x0 r.x1 r.y (λ x p l h. straight_row a.self a.skip r.y e x p))
+    (row_same r.pitch _ _ _ r.x0 r.x1 r.y (λ x p l h. straight_row a.self.now a.skip r.y e x p))
 
 pub returns-else-qy : goal.returns-else-qy
 returns-else-qy c =
@@ -18,4 +18,4 @@ returns-else-qy c =
     let r = a.row in
     let e = rw (c.fabs-dy.ensures, c.centre.ensures) at c.if-qy.false in
     drew_as (rw (c.fabs-dy.ensures, c.centre.ensures) at c.corner_row.ensures)
-    (row_same r.pitch _ _ _ r.x0 r.x1 r.y (λ x p l h. corner_row_lem a.self a.skip r.y e x p))
+    (row_same r.pitch _ _ _ r.x0 r.x1 r.y (λ x p l h. corner_row_lem a.self.now a.skip r.y e x p))

@@ -9,17 +9,17 @@ use Rattle.shadow.proofs.Shade.straight_row.Goals as goal
 pub straight_span-left-requires-clause-holds : goal.straight_span-left-requires-clause-holds
 straight_span-left-requires-clause-holds c =
     let a = c.args in
-    held_part (column_alpha a.self) a.row.x0 a.row.x1 _ c.requires.holds (omega arith) (omega (arith, c.min.ensures, c.max-a.ensures, c.requires.row_fits.order))
+    held_part (column_alpha a.self.now) a.row.x0 a.row.x1 _ c.requires.holds (omega arith) (omega (arith, c.min.ensures, c.max-a.ensures, c.requires.row_fits.order))
 
 pub straight_span-right-requires-clause-holds : goal.straight_span-right-requires-clause-holds
 straight_span-right-requires-clause-holds c =
     let a = c.args in
-    held_part (column_alpha a.self) a.row.x0 a.row.x1 _ c.requires.holds (omega (arith, c.max-a.ensures, c.max-b.ensures)) (omega arith)
+    held_part (column_alpha a.self.now) a.row.x0 a.row.x1 _ c.requires.holds (omega (arith, c.max-a.ensures, c.max-b.ensures)) (omega arith)
 
 pub returns : goal.returns
 returns c =
     let a = c.args in
-    let h = a.self in
+    let h = a.self.now in
     let r = a.row in
     parts (straight_row_ink h a.skip a.sdy) (straight_ink h a.sdy) (flat_ink h.c c.straight_middle-m.result)
     (straight_from h.s h.blur) (straight_upto h.s h.blur) r.y

@@ -6,4 +6,4 @@ use Rattle.shadow.proofs.Shade.straight_span.Goals as goal
 
 pub returns : goal.returns
 unfolding straight_ink Holds
-returns c = c.draw.ensures (straight_ink c.args.self c.args.sdy) (λ x p q h u _ e. search rules)
+returns c = c.draw.ensures (straight_ink c.args.self.now c.args.sdy) (λ x p q h u _ e. search rules)
