@@ -21,7 +21,7 @@ pub(crate) fn side_ok(n: i32) -> bool
 fn range_in(a: i32, b: i32, n: i32) -> bool
     ensures { result ≡ range_in a b n }
 {
-    (0 <= a) & (b <= n)
+    0 <= a && b <= n
 }
 
 // A box lies in a canvas of the sides w and h.
@@ -29,7 +29,7 @@ fn range_in(a: i32, b: i32, n: i32) -> bool
 pub(crate) fn in_canvas(w: i32, h: i32, b: IRect) -> bool
     ensures { result ≡ in_canvas w h b }
 {
-    range_in(b.x0, b.x1, w) & range_in(b.y0, b.y1, h)
+    range_in(b.x0, b.x1, w) && range_in(b.y0, b.y1, h)
 }
 
 // A clip is empty or inside the canvas.
@@ -37,7 +37,7 @@ pub(crate) fn in_canvas(w: i32, h: i32, b: IRect) -> bool
 pub(crate) fn clip_ok(w: i32, h: i32, b: IRect) -> bool
     ensures { result ≡ clip_ok w h b }
 {
-    b.is_empty() | in_canvas(w, h, b)
+    b.is_empty() || in_canvas(w, h, b)
 }
 
 // A place of the saved clips: a clip where it is in use, else four zeros.

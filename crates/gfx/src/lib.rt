@@ -67,6 +67,7 @@ pub struct Boxed {
 
 impl Done {
     // The answer of a call that was given a state: the next state, or the refusal beside the given one.
+    #[inline(always)]
     pub fn of(given: Canvas, next: Result<Canvas, Refusal>) -> Done
         ensures { result ≡ done_of given next }
     {
@@ -82,26 +83,25 @@ impl Done {
 
 impl Counted {
     // The answer of a shape call on a canvas: its steps, or the refusal.
+    #[inline(always)]
     pub fn of(canvas: Canvas, drawn: Result<u64, Refusal>) -> Counted
         ensures { result ≡ counted_of canvas drawn }
     {
-        match drawn {
-            Ok(steps) => Counted {
-                number: 0,
-                canvas,
-                steps,
-            },
-            Err(refusal) => Counted {
-                number: refusal.into(),
-                canvas,
-                steps: 0,
-            },
+        let (number, steps) = match drawn {
+            Ok(steps) => (0, steps),
+            Err(refusal) => (refusal.into(), 0),
+        };
+        Counted {
+            number,
+            canvas,
+            steps,
         }
     }
 }
 
 impl Boxed {
     // The answer of a call that asks for a box: the box, or four zeros beside the refusal.
+    #[inline(always)]
     fn of(asked: Result<IRect, Refusal>) -> Boxed
         ensures { result ≡ boxed_of asked }
     {
@@ -116,6 +116,7 @@ impl Boxed {
 }
 
 // The answer of a call that asks for a pixel: its value, or 0 beside the refusal.
+#[inline(always)]
 fn pixel_of(asked: Result<u32, Refusal>) -> Pixel
     ensures { result ≡ pixel_of asked }
 {
@@ -134,7 +135,9 @@ fn store_row(px: &mut [u32], pitch: usize, y: usize, w: usize, v: u32)
     ensures { px.new ≡ drawn_in pitch (area 0 y w (y + 1)) (λ _ _ _. v) px.old }
 {
     let row = y * pitch;
-    px[row..row + w].fill(v);
+    for p in px[row..row + w].iter_mut() {
+        *p = v;
+    }
 }
 
 // The first w words of each of h rows set to one value. Rows go by their numbers, as in `framed`.
@@ -170,11 +173,14 @@ impl Canvas {
         }
     }
 
-    // Whether each place of the saved clips is all right.
-    fn places_ok(self) -> bool
-        ensures { result ≡ places_ok self 16 }
+    // Whether each place of the saved clips is all right. They are copied first: a compiler then takes the state apart, and need
+    // not copy the whole of it at each call.
+    #[inline(always)]
+    fn places_ok(&self) -> bool
+        ensures { result ≡ places_ok self.now 16 }
     {
-        self.saved
+        let saved = self.saved;
+        saved
             .iter()
             .enumerate()
             .all(|(i, b)| place_ok(self.w, self.h, i < self.depth, *b))
@@ -182,14 +188,16 @@ impl Canvas {
 
     // Whether the sides, the depth and the clip are all right.
     #[tactic(auto, unfolding(crate::specs::State::frame_ok))]
-    fn frame_ok(self) -> bool
-        ensures { result ≡ frame_ok self }
+    #[inline(always)]
+    fn frame_ok(&self) -> bool
+        ensures { result ≡ frame_ok self.now }
     {
         side_ok(self.w) & side_ok(self.h) & (self.depth <= 16) & clip_ok(self.w, self.h, self.clip)
     }
 
     // Whether a state is one that a canvas can be in: refusal 12 is given for any other.
     #[tactic(auto, unfolding(crate::specs::State::valid_of))]
+    #[inline(always)]
     pub fn valid(self) -> bool
         ensures { result ≡ valid_of self }
     {
@@ -205,6 +213,7 @@ impl Canvas {
 
     // What a call without pixels tests before it looks at its own arguments: refused with 12, then 15.
     #[tactic(auto, unfolding(crate::specs::Calls::state_number))]
+    #[inline(always)]
     pub fn check_state(self) -> Result<(), Refusal>
         ensures { number_of result ≡ state_number self }
     {
@@ -214,6 +223,7 @@ impl Canvas {
 
     // The same of a call on n lent words: 12, 15, then 8.
     #[tactic(auto, unfolding(crate::specs::Calls::px_number))]
+    #[inline(always)]
     pub fn check_px(self, n: usize) -> Result<(), Refusal>
         ensures { number_of result ≡ px_number self n }
     {
@@ -223,6 +233,7 @@ impl Canvas {
 
     // The same of a shape call, by whether the floats given are finite and within 8,192 of 0: then 6.
     #[tactic(auto, unfolding(crate::specs::Calls::shape_number))]
+    #[inline(always)]
     pub fn check_shape(self, n: usize, ok: bool) -> Result<(), Refusal>
         ensures { number_of result ≡ shape_number self n ok }
     {
@@ -232,6 +243,7 @@ impl Canvas {
 
     // What `resize` tests: the pitch must be neither below the width of the state nor below the one wanted.
     #[tactic(auto, unfolding(crate::specs::Calls::resize_number))]
+    #[inline(always)]
     fn check_resize(self, w: i32, h: i32, n: usize) -> Result<(), Refusal>
         ensures { number_of result ≡ resize_number self w h n }
     {

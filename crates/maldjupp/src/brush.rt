@@ -59,6 +59,7 @@ impl Brush {
 // The answer of a call on n lent words that 5 is given for: its brush has a kind over 3, or the `skip` of its shadow is over 1.
 // 12, 15 and 8 come before.
 #[tactic(auto, unfolding(crate::specs::Brushes::five_number))]
+#[inline(always)]
 pub fn refused_kind(canvas: Canvas, n: usize) -> Counted
     ensures { result ≡ record { number = five_number canvas n; canvas = canvas; steps = 0 } }
 {
@@ -75,6 +76,7 @@ fn check_before(canvas: Canvas, n: usize, pts: &[f32]) -> Result<(), Refusal>
 
 // The answer of a call with points, whose brush has a kind over 3: 5 after all these.
 #[tactic(auto, unfolding(crate::specs::Brushes::points_kind_number))]
+#[inline(always)]
 pub fn refused_points_kind(canvas: Canvas, n: usize, pts: &[f32]) -> Counted
     ensures { result ≡ record { number = points_kind_number canvas n pts.now; canvas = canvas; steps = 0 } }
 {

@@ -9,7 +9,7 @@ use Rattle.gfx.proofs.Canvas.places_ok.Goals as goal
 
 pub returns : goal.returns
 returns c =
-    let s = c.args.self in
+    let s = c.args.self.now in
     places_told s _ (search rules)
     (cases_from_all _ _ _ (λ p. tested s p ≡ true) (λ p. tested s p ≡ false) c.all.ensures.ran
     (YieldsList-from_enumerate (YieldsList-from_slice s.saved (search rules)) (search rules))
