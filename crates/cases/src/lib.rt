@@ -10,11 +10,14 @@ pub mod canvas;
 mod samples;
 pub mod word;
 
+ghost use Rattle.cases.specs.Areas.{IsArea};
+
 pub use crate::answer::color_of;
 pub use crate::boxes::{irect, rect};
 pub use crate::samples::{paint, point};
 
-// What the cases of a file are of.
+// What the cases of a file are of. A number that no area has stands for other cases: they are as long as those of orders, and read
+// as sheets to be painted or patched.
 #[derive(Clone, Copy)]
 pub enum Area {
     Mathf,
@@ -27,36 +30,48 @@ pub enum Area {
     Patches,
     Orders,
     Panel,
+    Other,
 }
 
 // The area with a number.
-impl TryFrom<u32> for Area {
-    type Error = ();
+impl From<u32> for Area {
+    ghost from_gives = { IsArea };
 
-    fn try_from(number: u32) -> Result<Self, ()> {
+    fn from(number: u32) -> Area {
         match number {
-            0 => Ok(Area::Mathf),
-            1 => Ok(Area::Color),
-            2 => Ok(Area::Geom),
-            3 => Ok(Area::Canvas),
-            4 => Ok(Area::Paints),
-            5 => Ok(Area::Shapes),
-            6 => Ok(Area::Sheets),
-            7 => Ok(Area::Patches),
-            8 => Ok(Area::Orders),
-            9 => Ok(Area::Panel),
-            _ => Err(()),
+            0 => Area::Mathf,
+            1 => Area::Color,
+            2 => Area::Geom,
+            3 => Area::Canvas,
+            4 => Area::Paints,
+            5 => Area::Shapes,
+            6 => Area::Sheets,
+            7 => Area::Patches,
+            8 => Area::Orders,
+            9 => Area::Panel,
+            _ => Area::Other,
         }
     }
 }
 
-// Whether a case has the answer of the proved functions, for the areas whose functions take no pixels.
-pub fn agrees(area: Area, case: &[u8]) -> Option<bool> {
-    match area {
-        Area::Mathf => Some(answer::mathf(case)),
-        Area::Color => Some(answer::color(case)),
-        Area::Geom => Some(boxes::agrees(case)),
-        Area::Paints => Some(samples::agrees(case)),
-        _ => None,
+impl Area {
+    // Whether a case has the answer of the proved functions, for the areas whose functions take no pixels.
+    pub fn agrees(self, case: &[u8]) -> Option<bool> {
+        match self {
+            Area::Mathf => Some(answer::mathf(case)),
+            Area::Color => Some(answer::color(case)),
+            Area::Geom => Some(boxes::agrees(case)),
+            Area::Paints => Some(samples::agrees(case)),
+            _ => None,
+        }
+    }
+}
+
+// Whether a case has the answer of the proved functions, its area given by the number: mathf, color, geom; of any other number the
+// case is one of paints.
+pub fn agrees(area: u32, case: &[u8]) -> bool {
+    match Area::from(area).agrees(case) {
+        Some(same) => same,
+        None => samples::agrees(case),
     }
 }

@@ -1,5 +1,5 @@
-// The items of a sheet, one after the other, each as its bytes: `for b in Items::of(s)`. A function that has a sheet and a number
-// reads by `item_bytes`.
+// The items of a sheet, one after the other, each as its bytes: `for b in Items::of(s)`. Each is read by `item_bytes`, as by a function
+// that has a sheet and a number.
 #![tactic(auto)]
 
 ghost use Rattle.std.specs.Prelude.{◌≡◌, ◌-◌, ◌<◌};
@@ -44,7 +44,7 @@ impl<'a> Iterator for Items<'a> {
         if self.next < self.count {
             let k = self.next;
             self.next += 1;
-            Some(bytes_at(self.sheet, k))
+            Some(item_bytes(self.sheet, k))
         } else {
             None
         }

@@ -15,6 +15,7 @@ fn mark(i: usize) -> u8 {
     (65 + i % 61) as u8
 }
 
+// A buffer before the call.
 fn marked() -> [u8; ROOM] {
     let mut out = [0; ROOM];
     for (i, x) in out.iter_mut().enumerate() {
@@ -24,24 +25,34 @@ fn marked() -> [u8; ROOM] {
 }
 
 // Whether a buffer is a sheet, and past it what it was before.
-fn holds(buf: &[u8], sheet: &[u8]) -> bool {
-    buf.iter()
-        .enumerate()
-        .all(|(i, x)| *x == sheet.get(i).copied().unwrap_or(mark(i)))
+fn holds(buf: &[u8], before: &[u8], sheet: &[u8]) -> bool {
+    let n = sheet.len().min(buf.len());
+    match before.get(n..) {
+        Some(rest) => buf[..n] == sheet[..n] && buf[n..] == rest[..],
+        None => false,
+    }
 }
 
-fn leaves_in(buf: &mut [u8], lent: usize, k: usize, number: u32, sheet: &[u8]) -> bool {
+fn leaves_in(
+    buf: &mut [u8],
+    before: &[u8],
+    lent: usize,
+    k: usize,
+    number: u32,
+    sheet: &[u8],
+) -> bool {
     let n = lent.min(buf.len());
     let w = clip_order(k, &mut buf[..n]);
     let said = w.number == number && w.item == 0 && w.len == sheet.len();
-    said && holds(buf, sheet)
+    said && holds(buf, before, sheet)
 }
 
 // Whether the call, lent so many bytes of a buffer, answers with a number and leaves a sheet in it; an empty one where it
 // refuses.
 fn leaves(lent: usize, k: usize, number: u32, sheet: &[u8]) -> bool {
-    let mut buf = marked();
-    leaves_in(&mut buf, lent, k, number, sheet)
+    let before = marked();
+    let mut buf = before;
+    leaves_in(&mut buf, &before, lent, k, number, sheet)
 }
 
 // Whether a sheet paints the stored pixels, over a colour that no sheet here has, with no scratch; it is accepted, with the whole

@@ -15,7 +15,7 @@ pub struct Tally {
     pub differ: u32,
 }
 
-// How many words the case has that begins the bytes. Only that of an order says it itself.
+// How many words the case has that begins the bytes. Only that of an order, or of no area's, says it itself.
 fn width(area: Area, bytes: &[u8]) -> u32
     ensures { result < 65536 }
 {
@@ -27,8 +27,8 @@ fn width(area: Area, bytes: &[u8]) -> u32
         Area::Paints => 10,
         Area::Shapes => 102,
         Area::Sheets | Area::Patches => 254,
-        Area::Orders => 17 + word(bytes, 0) % 65536 / 4,
         Area::Panel => 95,
+        Area::Orders | Area::Other => 17 + word(bytes, 0) % 65536 / 4,
     }
 }
 
@@ -96,7 +96,7 @@ fn drawn(area: Area, case: &[u8]) -> bool {
 
 // Whether the proved functions answer as a case says.
 fn agrees(area: Area, case: &[u8]) -> bool {
-    match cases::agrees(area, case) {
+    match area.agrees(case) {
         Some(same) => same,
         None => drawn(area, case),
     }
@@ -127,13 +127,11 @@ fn judged(area: Area, bytes: &[u8], f: u32, i: u32) -> Option<bool> {
     })
 }
 
-// The cases of function f, and those of them whose answer is another than the stored one. Of an area that there is none of, every
-// case differs. Cases are as long as each says, so they are counted.
+// The cases of function f, and those of them whose answer is another than the stored one. Cases are as long as each says, so they
+// are counted.
 pub fn count(bytes: &[u8], area: u32, f: u32) -> Tally {
     let n = word(bytes, 0) % 65536;
-    let Ok(area) = Area::try_from(area) else {
-        return Tally { ran: n, differ: n };
-    };
+    let area = Area::from(area);
     let mut tally = Tally { ran: 0, differ: 0 };
     let mut rest = from(bytes, 1);
     for i in 0..n {
